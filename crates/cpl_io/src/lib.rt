@@ -1,0 +1,19 @@
+//! The outside of the coupler: named files and a line of output, each with a count of its faults.
+#![tactic(auto)]
+
+mod failure;
+mod memory;
+mod named;
+mod read;
+mod real;
+mod schedule;
+mod shelf;
+mod sink;
+mod sure;
+
+pub use memory::{MemShelf, MemSink};
+pub use read::{ReadError, read_whole};
+pub use real::{FileShelf, OutSink};
+pub use shelf::{Shelf, ShelfError};
+pub use sink::{Sink, SinkError};
+pub use sure::{SureShelf, SureSink};

@@ -1,0 +1,123 @@
+// Real files and standard output: the edge of the system. They count their failures, and tell nothing else.
+ghost use Rattle.std.specs.Prelude.{◌≡◌, ◌≤◌, length, IfOk, ℕ, Bool, false, Option, None, List, []};
+ghost use Rattle.std.specs.FinMap as map;
+ghost use Rattle.cpl_io.specs.Failures.{failed_call};
+
+use crate::failure::Failures;
+use crate::{Shelf, ShelfError, Sink, SinkError};
+use std::alloc::Global;
+use std::fs::{File, OpenOptions};
+use std::io::{self, Read, Seek, SeekFrom, Write};
+use std::rt::Files;
+
+/// Real files. A name is a path. Each call opens the file anew and closes it. Each failure counts, that of
+/// a file that is missing, is a directory or may not be read included. `begin` makes the file or empties
+/// it, `append` makes the file where there is none.
+///
+/// It tells no contents. That its calls do to the disk what their names say is trusted, and not proved.
+#[derive(Drop)]
+pub struct FileShelf<R> {
+    rt: R,
+    failures: Failures,
+}
+
+impl<R: Files + Drop> FileShelf<R> {
+    /// The files that the runtime reaches, with no failure so far. The allocator serves the copy of a
+    /// failed call's name.
+    pub fn new(rt: R, alloc: Global) -> FileShelf<R>
+        ensures faults { ⟦<FileShelf<R> as Shelf>⟧.faults result ≡ 0 }
+        ensures failed { ⟦<FileShelf<R> as Shelf>⟧.failed result ≡ None }
+    {
+        FileShelf {
+            rt,
+            failures: Failures::new(alloc),
+        }
+    }
+}
+
+fn read_real<R: Files>(rt: &R, name: &str, from: u64, buf: &mut [u8]) -> io::Result<usize>
+    ensures { IfOk result (λ n. n ≤ length buf.new) }
+{
+    let mut file = File::open(rt, name)?;
+    file.seek(SeekFrom::Start(from))?;
+    file.read(buf)
+}
+
+fn append_real<R: Files>(rt: &R, name: &str, bytes: &[u8]) -> io::Result<()> {
+    let mut file = OpenOptions::new().append(true).create(true).open(rt, name)?;
+    file.write_all(bytes)
+}
+
+impl<R: Files + Drop> Shelf for FileShelf<R> {
+    ghost told = { λ _. false };
+
+    ghost files = { λ _. map.empty };
+
+    ghost faults = { λ s. s.failures.count };
+
+    ghost failed = { λ s. failed_call s.failures.last };
+
+    fn read_at(&mut self, name: &str, from: u64, buf: &mut [u8]) -> Result<usize, ShelfError> {
+        match read_real(&self.rt, name, from, buf) {
+            Ok(count) => Ok(count),
+            Err(_) => self.failures.reading(name),
+        }
+    }
+
+    fn begin(&mut self, name: &str) -> Result<(), ShelfError> {
+        match File::create(&self.rt, name) {
+            Ok(_) => Ok(()),
+            Err(_) => self.failures.writing(name),
+        }
+    }
+
+    fn append(&mut self, name: &str, bytes: &[u8]) -> Result<(), ShelfError> {
+        match append_real(&self.rt, name, bytes) {
+            Ok(()) => Ok(()),
+            Err(_) => self.failures.writing(name),
+        }
+    }
+}
+
+/// Standard output. Each failure counts, as that of a device that is full or a pipe that is closed. It
+/// keeps nothing back: where `put` answers `Ok`, the system has taken all the bytes.
+///
+/// It tells no bytes. That they reach the output is trusted, and not proved.
+#[derive(Drop)]
+pub struct OutSink<R> {
+    rt: R,
+    faults: u64,
+}
+
+impl<R: Print + Drop> OutSink<R> {
+    /// The output that the runtime reaches, with no failure so far.
+    pub fn new(rt: R) -> OutSink<R>
+        ensures faults { ⟦<OutSink<R> as Sink>⟧.faults result ≡ 0 }
+    {
+        OutSink { rt, faults: 0 }
+    }
+}
+
+fn print_real<R: Print>(rt: &R, bytes: &[u8]) -> io::Result<()> {
+    let mut out = io::writer(rt);
+    out.write_all(bytes)?;
+    out.flush()
+}
+
+impl<R: Print + Drop> Sink for OutSink<R> {
+    ghost told = { λ _. false };
+
+    ghost written = { λ _. [] };
+
+    ghost faults = { λ s. s.faults };
+
+    fn put(&mut self, bytes: &[u8]) -> Result<(), SinkError> {
+        match print_real(&self.rt, bytes) {
+            Ok(()) => Ok(()),
+            Err(_) => {
+                self.faults = self.faults.saturating_add(1);
+                Err(SinkError::Failed)
+            }
+        }
+    }
+}
