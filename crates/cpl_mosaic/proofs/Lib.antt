@@ -1,0 +1,12 @@
+pub mod Numbers
+pub mod Elements
+pub mod Edges
+pub mod Joins
+pub mod Neighbours
+pub mod Agree
+pub mod Places
+pub mod Tables
+pub mod Refusals
+pub mod Twice
+pub mod Spans
+pub mod Mates
