@@ -1,0 +1,13 @@
+pub mod Steps
+pub mod Numbers
+pub mod Fields
+pub mod LinesAt
+pub mod Turns
+pub mod Limits
+pub mod MeshLines
+pub mod OrderedLines
+pub mod Laws
+pub mod Given
+pub mod Areas
+pub mod SoFar
+pub mod Rules
