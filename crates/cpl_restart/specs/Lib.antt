@@ -1,0 +1,4 @@
+pub mod Numbers
+pub mod Sections
+pub mod AirBytes
+pub mod Diffusion
