@@ -1,0 +1,9 @@
+//! The undivided run: whole lists, no pieces, one thread.
+#![tactic(auto)]
+
+mod diffuse;
+mod flow;
+mod neighbours;
+mod solo;
+
+pub use solo::run_solo;
