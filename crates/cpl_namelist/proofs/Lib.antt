@@ -1,0 +1,12 @@
+pub mod Gaps
+pub mod Orders
+pub mod Fronts
+pub mod Rows
+pub mod Judged
+pub mod Wholes
+pub mod Months
+pub mod Given
+pub mod Fine
+pub mod Named
+pub mod Grammars
+pub mod Calm

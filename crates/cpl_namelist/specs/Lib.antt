@@ -1,0 +1,10 @@
+pub mod Tokens
+pub mod Syntax
+pub mod Table
+pub mod Values
+pub mod Numbers
+pub mod Settings
+pub mod Names
+pub mod Civil
+pub mod Ranges
+pub mod Grammar
