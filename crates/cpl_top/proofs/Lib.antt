@@ -1,0 +1,5 @@
+pub mod Written
+pub mod Texts
+pub mod Totals
+pub mod Meshes
+pub mod Judging
