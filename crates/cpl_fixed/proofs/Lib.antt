@@ -1,0 +1,4 @@
+pub mod Parts
+pub mod ShareLaws
+pub mod Reciprocals
+pub mod Flows
