@@ -18,14 +18,14 @@ one_more count = min (count + 1) (2 ^ 64 - 1)
 abbrev pub Rose : ℕ → ℕ → Type 0
 Rose before now = one_more before ≤ now
 
--- the count of faults, and the call that failed last, after a call on a shelf with this answer
+-- the count of faults, and the call that failed last, after a call on a shelf with this answer: only `Failed` changes them
 abbrev pub FailedAfter : {T : Type 0} → Call → Result T ShelfError → ℕ → ℕ → Option Call → Option Call → Type 0
 FailedAfter call (Err shelf.Failed) before now was is = Rose before now × (is ≡ Some call)
-FailedAfter call (Err shelf.Memory) before now was is = is ≡ was
-FailedAfter call (Ok x) before now was is = is ≡ was
+FailedAfter call (Err shelf.Memory) before now was is = (now ≡ before) × (is ≡ was)
+FailedAfter call (Ok x) before now was is = (now ≡ before) × (is ≡ was)
 
--- the count of faults after a call on a sink with this answer
+-- the count of faults after a call on a sink with this answer: only `Failed` changes it
 abbrev pub RoseAfter : {T : Type 0} → Result T SinkError → ℕ → ℕ → Type 0
 RoseAfter (Err sink.Failed) before now = Rose before now
-RoseAfter (Err sink.Memory) before now = Unit {0}
-RoseAfter (Ok x) before now = Unit {0}
+RoseAfter (Err sink.Memory) before now = now ≡ before
+RoseAfter (Ok x) before now = now ≡ before

@@ -1,13 +1,15 @@
 -- The call that failed last, as it is kept.
-use Rattle.std.specs.Prelude.{Option, Some, None, string_bytes}
+use Rattle.std.specs.Prelude.{ℕ, List, Option, Some, None, string_bytes}
 use Rattle.cpl_io.specs.Causes.{Call, Reading, Writing}
+use Rattle.cpl_io.specs.declared.failure.Access.{Access}
+use Rattle.cpl_io.specs.declared.failure.Access.TheVariants as access
 use Rattle.cpl_io.specs.declared.failure.FailedCall.{FailedCall}
-use Rattle.cpl_io.specs.declared.failure.FailedCall.TheVariants as kept
 
-abbrev pub call_of : FailedCall → Call
-call_of (kept.Reading name) = Reading (string_bytes name)
-call_of (kept.Writing name) = Writing (string_bytes name)
+-- the call that does this to the file of this name
+abbrev pub access_call : Access → List ℕ → Call
+access_call access.Reading name = Reading name
+access_call access.Writing name = Writing name
 
 abbrev pub failed_call : Option FailedCall → Option Call
 failed_call None = None
-failed_call (Some call) = Some (call_of call)
+failed_call (Some call) = Some (access_call call.access (string_bytes call.name))

@@ -1,5 +1,5 @@
 -- What a shelf and a sink in memory are to their users, and how they count.
-use Rattle.std.specs.Prelude.{ℕ, List, Option, Result, Ok, Err}
+use Rattle.std.specs.Prelude.{◌≡◌, ℕ, List, Contains, Option, Result, Ok, Err, IsErr, IsErrOf}
 use Rattle.cpl_io.specs.Files.{Files}
 use Rattle.cpl_io.specs.Causes.{Call, one_more}
 use Rattle.cpl_io.specs.declared.shelf.ShelfError.{ShelfError}
@@ -35,3 +35,11 @@ abbrev pub sink_faults : {T : Type 0} → Result T SinkError → ℕ → ℕ
 sink_faults (Err sink.Failed) count = one_more count
 sink_faults (Err sink.Memory) count = count
 sink_faults (Ok x) count = count
+
+-- A call on a shelf in memory counts itself, and its fault. It fails where its number is due, and answers `Failed` only there.
+pub record IsCounted {T : Type 0} (old new : MemoryShelf) (result : Result T ShelfError) : Type 0 where
+  pub faults : new.faults ≡ shelf_faults result old.faults
+  pub due : Contains old.fail old.calls → IsErr result
+  pub only_due : IsErrOf result shelf.Failed → Contains old.fail old.calls
+  pub calls : new.calls ≡ one_more old.calls
+  pub fail : new.fail ≡ old.fail

@@ -1,14 +1,14 @@
 // A shelf and a sink in memory, of which chosen calls fail.
 ghost use Rattle.std.specs.Prelude.{◌≡◌, ◌<◌, ◌≤◌, ◌++◌, true, [], None, length, Contains};
-ghost use Rattle.std.specs.Prelude.{IsTrue, IfOk, OnOk, OnErr, IsErr, IsErrOf};
+ghost use Rattle.std.specs.Prelude.{IsTrue, IfOk, OnOk, OnErr, IsErrOf};
 ghost use Rattle.std.specs.Option.{option_map};
 ghost use Rattle.std.specs.FinMap as map;
 ghost use Rattle.cpl_io.specs.Files.{bytes_of, ReadsAt, Has, OthersStand};
 ghost use Rattle.cpl_io.specs.Causes.{Reading, Writing, FailedAfter, RoseAfter, one_more};
-ghost use Rattle.cpl_io.specs.Memory.{shelf_faults, sink_faults};
+ghost use Rattle.cpl_io.specs.Memory.{IsCounted, sink_faults};
 ghost use Rattle.cpl_io.specs.Sink.{AppendsFront};
 
-use crate::failure::Failures;
+use crate::failure::{Access, Failures};
 use crate::named::NamedFiles;
 use crate::schedule::Schedule;
 use crate::{Shelf, ShelfError, Sink, SinkError};
@@ -91,17 +91,13 @@ impl Shelf for MemShelf {
         ensures files { self.new.files ≡ self.old.files }
         ensures bound { IfOk result (λ n. n ≤ length buf.new) }
         ensures bytes { IfOk result (λ n. ReadsAt (bytes_of self.old.files name.now) from n buf.new) }
-        ensures later { self.old.faults ≤ self.new.faults }
+        ensures faults_grow { self.old.faults ≤ self.new.faults }
         ensures cause { FailedAfter (Reading name.now) result
             self.old.faults self.new.faults self.old.failed self.new.failed }
-        ensures faults { self.new.faults ≡ shelf_faults result self.old.faults }
-        ensures due { Contains self.old.fail self.old.calls → IsErr result }
-        ensures only_due { IsErrOf result ShelfError.Failed → Contains self.old.fail self.old.calls }
-        ensures calls { self.new.calls ≡ one_more self.old.calls }
-        ensures fail { self.new.fail ≡ self.old.fail }
+        ensures counted { IsCounted self.old self.new result }
     {
         if self.schedule.next_fails() {
-            return self.failures.reading(name);
+            return self.failures.fail(Access::Reading, name);
         }
         Ok(self.files.copy_from(name, from, buf))
     }
@@ -109,17 +105,13 @@ impl Shelf for MemShelf {
     fn begin(&mut self, name: &str) -> Result<(), ShelfError>
         ensures begun { OnOk result (Has self.new.files name.now []) }
         ensures others { OthersStand self.old.files self.new.files name.now }
-        ensures later { self.old.faults ≤ self.new.faults }
+        ensures faults_grow { self.old.faults ≤ self.new.faults }
         ensures cause { FailedAfter (Writing name.now) result
             self.old.faults self.new.faults self.old.failed self.new.failed }
-        ensures faults { self.new.faults ≡ shelf_faults result self.old.faults }
-        ensures due { Contains self.old.fail self.old.calls → IsErr result }
-        ensures only_due { IsErrOf result ShelfError.Failed → Contains self.old.fail self.old.calls }
-        ensures calls { self.new.calls ≡ one_more self.old.calls }
-        ensures fail { self.new.fail ≡ self.old.fail }
+        ensures counted { IsCounted self.old self.new result }
     {
         if self.schedule.next_fails() {
-            return self.failures.writing(name);
+            return self.failures.fail(Access::Writing, name);
         }
         self.files.put(name, &[]).map_err(|_| ShelfError::Memory)
     }
@@ -128,17 +120,13 @@ impl Shelf for MemShelf {
         ensures added { OnOk result
             (Has self.new.files name.now (bytes_of self.old.files name.now ++ bytes.now)) }
         ensures others { OthersStand self.old.files self.new.files name.now }
-        ensures later { self.old.faults ≤ self.new.faults }
+        ensures faults_grow { self.old.faults ≤ self.new.faults }
         ensures cause { FailedAfter (Writing name.now) result
             self.old.faults self.new.faults self.old.failed self.new.failed }
-        ensures faults { self.new.faults ≡ shelf_faults result self.old.faults }
-        ensures due { Contains self.old.fail self.old.calls → IsErr result }
-        ensures only_due { IsErrOf result ShelfError.Failed → Contains self.old.fail self.old.calls }
-        ensures calls { self.new.calls ≡ one_more self.old.calls }
-        ensures fail { self.new.fail ≡ self.old.fail }
+        ensures counted { IsCounted self.old self.new result }
     {
         if self.schedule.next_fails() {
-            return self.failures.writing(name);
+            return self.failures.fail(Access::Writing, name);
         }
         self.files
             .extend(name, bytes)
@@ -202,7 +190,7 @@ impl Sink for MemSink {
     fn put(&mut self, bytes: &[u8]) -> Result<(), SinkError>
         ensures ok { OnOk result (self.new.written ≡ self.old.written ++ bytes.now) }
         ensures err { OnErr result (AppendsFront self.old.written self.new.written bytes.now) }
-        ensures later { self.old.faults ≤ self.new.faults }
+        ensures faults_grow { self.old.faults ≤ self.new.faults }
         ensures cause { RoseAfter result self.old.faults self.new.faults }
         ensures faults { self.new.faults ≡ sink_faults result self.old.faults }
         ensures due { Contains self.old.fail self.old.calls → IsErrOf result SinkError.Failed }

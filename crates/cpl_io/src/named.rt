@@ -10,7 +10,7 @@ use std::marker::Model;
 
 /// Files by their names, each with its bytes.
 #[derive(Drop)]
-pub struct NamedFiles {
+pub(crate) struct NamedFiles {
     alloc: Global,
     map: BTreeMap<String, Vec<u8>>,
 }
@@ -28,7 +28,7 @@ impl Model for NamedFiles {
 
 impl NamedFiles {
     /// No file.
-    pub fn new(alloc: Global) -> NamedFiles
+    pub(crate) fn new(alloc: Global) -> NamedFiles
         ensures { result ≡ map.empty }
     {
         NamedFiles {
@@ -38,7 +38,7 @@ impl NamedFiles {
     }
 
     /// The bytes of the name, and none where there is no such file.
-    pub fn get(&self, name: &str) -> Option<&[u8]>
+    pub(crate) fn get(&self, name: &str) -> Option<&[u8]>
         ensures { option_map (λ bytes. bytes.now) result ≡ map.get self.now name.now }
     {
         match self.map.get(name) {
@@ -48,7 +48,7 @@ impl NamedFiles {
     }
 
     /// Gives the name these bytes, in place of those that it had.
-    pub fn put(&mut self, name: &str, bytes: &[u8]) -> Result<(), AllocError>
+    pub(crate) fn put(&mut self, name: &str, bytes: &[u8]) -> Result<(), AllocError>
         ensures ok { OnOk result (Has self.new name.now bytes.now) }
         ensures others { OthersStand self.old self.new name.now }
     {
@@ -59,7 +59,7 @@ impl NamedFiles {
     }
 
     /// Adds the bytes at the name's end.
-    pub fn extend(&mut self, name: &str, bytes: &[u8]) -> Result<(), AllocError>
+    pub(crate) fn extend(&mut self, name: &str, bytes: &[u8]) -> Result<(), AllocError>
         ensures ok { OnOk result (Has self.new name.now (bytes_of self.old name.now ++ bytes.now)) }
         ensures others { OthersStand self.old self.new name.now }
     {
@@ -70,7 +70,7 @@ impl NamedFiles {
     }
 
     /// Copies the bytes of the name from a place on, as many as there are and `buf` has room for.
-    pub fn copy_from(&self, name: &str, from: u64, buf: &mut [u8]) -> usize
+    pub(crate) fn copy_from(&self, name: &str, from: u64, buf: &mut [u8]) -> usize
         requires { 0 < length buf.old }
         ensures bound { result ≤ length buf.new }
         ensures bytes { ReadsAt (bytes_of self.now name.now) from result buf.new }

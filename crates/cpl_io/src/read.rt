@@ -1,9 +1,8 @@
 // The whole of a file.
-ghost use Rattle.std.specs.Prelude.{◌≡◌, ◌<◌, ◌≤◌, length, Some, IsTrue, IsErr, IfOk, IsErrOf};
+ghost use Rattle.std.specs.Prelude.{◌≡◌, ◌<◌, ◌≤◌, length, IsTrue, IsErr, IfOk, IsErrOf};
 ghost use Rattle.cpl_io.specs.Files.{bytes_of};
-ghost use Rattle.cpl_io.specs.Causes.{Rose, Reading};
 ghost use Rattle.cpl_io.specs.declared.read.ReadError.TheVariants as read;
-ghost use Rattle.cpl_io.specs.ReadErrors.{read_error};
+ghost use Rattle.cpl_io.specs.ReadErrors.{read_error, ReadAfter};
 
 use crate::{Shelf, ShelfError};
 use std::alloc::{AllocError, Global};
@@ -62,7 +61,7 @@ pub fn read_whole<S: Shelf>(
     name: &str,
     limit: u64,
 ) -> Result<Vec<u8>, ReadError>
-    ensures told { S.told shelf.new ≡ S.told shelf.old }
+    ensures still_tells { S.told shelf.new ≡ S.told shelf.old }
     ensures files { S.files shelf.new ≡ S.files shelf.old }
     ensures bound { IfOk result (λ bytes. length bytes.items ≤ limit) }
     ensures bytes { IsTrue (S.told shelf.old)
@@ -73,9 +72,11 @@ pub fn read_whole<S: Shelf>(
         → limit < length (bytes_of (S.files shelf.old) name.now) }
     ensures no_longer { IsTrue (S.told shelf.old)
         → limit < length (bytes_of (S.files shelf.old) name.now) → IsErr result }
-    ensures later { S.faults shelf.old ≤ S.faults shelf.new }
-    ensures read { IsErrOf result ReadError.Read
-        → Rose (S.faults shelf.old) (S.faults shelf.new) × (S.failed shelf.new ≡ Some (Reading name.now)) }
+    ensures faults_grow { S.faults shelf.old ≤ S.faults shelf.new }
+
+    // `Read` comes only where a reading of this name failed, and after any other answer none has failed.
+    ensures read { ReadAfter name.now result
+        (S.faults shelf.old) (S.faults shelf.new) (S.failed shelf.old) (S.failed shelf.new) }
 {
     let mut bytes = Vec::new(alloc);
     let mut chunk = new_chunk(alloc)?;

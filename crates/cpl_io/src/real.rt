@@ -3,7 +3,7 @@ ghost use Rattle.std.specs.Prelude.{◌≡◌, ◌≤◌, length, IfOk, ℕ, Boo
 ghost use Rattle.std.specs.FinMap as map;
 ghost use Rattle.cpl_io.specs.Failures.{failed_call};
 
-use crate::failure::Failures;
+use crate::failure::{Access, Failures};
 use crate::{Shelf, ShelfError, Sink, SinkError};
 use std::alloc::Global;
 use std::fs::{File, OpenOptions};
@@ -60,21 +60,21 @@ impl<R: Files + Drop> Shelf for FileShelf<R> {
     fn read_at(&mut self, name: &str, from: u64, buf: &mut [u8]) -> Result<usize, ShelfError> {
         match read_real(&self.rt, name, from, buf) {
             Ok(count) => Ok(count),
-            Err(_) => self.failures.reading(name),
+            Err(_) => self.failures.fail(Access::Reading, name),
         }
     }
 
     fn begin(&mut self, name: &str) -> Result<(), ShelfError> {
         match File::create(&self.rt, name) {
             Ok(_) => Ok(()),
-            Err(_) => self.failures.writing(name),
+            Err(_) => self.failures.fail(Access::Writing, name),
         }
     }
 
     fn append(&mut self, name: &str, bytes: &[u8]) -> Result<(), ShelfError> {
         match append_real(&self.rt, name, bytes) {
             Ok(()) => Ok(()),
-            Err(_) => self.failures.writing(name),
+            Err(_) => self.failures.fail(Access::Writing, name),
         }
     }
 }

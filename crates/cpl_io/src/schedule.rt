@@ -4,14 +4,14 @@ ghost use Rattle.cpl_io.specs.Causes.{one_more};
 
 /// Calls that are counted from 0, some of which are to fail. The count stays at its last value.
 #[derive(Drop)]
-pub struct Schedule {
-    pub fail: Vec<u64>,
-    pub calls: u64,
+pub(crate) struct Schedule {
+    pub(crate) fail: Vec<u64>,
+    pub(crate) calls: u64,
 }
 
 impl Schedule {
     /// No call so far. Those whose numbers stand in the list are to fail.
-    pub fn new(fail: Vec<u64>) -> Schedule
+    pub(crate) fn new(fail: Vec<u64>) -> Schedule
         ensures fail { result.fail.items ≡ fail.items }
         ensures calls { result.calls ≡ 0 }
     {
@@ -19,7 +19,7 @@ impl Schedule {
     }
 
     /// Counts a call, and says whether it is to fail.
-    pub fn next_fails(&mut self) -> bool
+    pub(crate) fn next_fails(&mut self) -> bool
         ensures due { IsTrue result ↔ Contains self.old.fail.items self.old.calls }
         ensures calls { self.new.calls ≡ one_more self.old.calls }
         ensures fail { self.new.fail.items ≡ self.old.fail.items }

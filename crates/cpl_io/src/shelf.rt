@@ -36,33 +36,33 @@ pub trait Shelf {
     /// where no byte stands at or after that place. It changes no file.
     fn read_at(&mut self, name: &str, from: u64, buf: &mut [u8]) -> Result<usize, ShelfError>
         requires { 0 < length buf.old }
-        ensures told { told self.new ≡ told self.old }
+        ensures still_tells { told self.new ≡ told self.old }
         ensures files { files self.new ≡ files self.old }
         ensures bound { IfOk result (λ n. n ≤ length buf.new) }
         ensures bytes { IsTrue (told self.old)
             → IfOk result (λ n. ReadsAt (bytes_of (files self.old) name.now) from n buf.new) }
-        ensures later { faults self.old ≤ faults self.new }
+        ensures faults_grow { faults self.old ≤ faults self.new }
         ensures cause { FailedAfter (Reading name.now) result
             (faults self.old) (faults self.new) (failed self.old) (failed self.new) };
 
     /// Leaves the name with no bytes, as a file that is there. All other names stand. After an `Err` the
     /// name may have any bytes.
     fn begin(&mut self, name: &str) -> Result<(), ShelfError>
-        ensures told { told self.new ≡ told self.old }
+        ensures still_tells { told self.new ≡ told self.old }
         ensures begun { IsTrue (told self.old) → OnOk result (Has (files self.new) name.now []) }
         ensures others { IsTrue (told self.old) → OthersStand (files self.old) (files self.new) name.now }
-        ensures later { faults self.old ≤ faults self.new }
+        ensures faults_grow { faults self.old ≤ faults self.new }
         ensures cause { FailedAfter (Writing name.now) result
             (faults self.old) (faults self.new) (failed self.old) (failed self.new) };
 
     /// Adds all the bytes at the name's end. All other names stand. After an `Err` the name may have any
     /// bytes.
     fn append(&mut self, name: &str, bytes: &[u8]) -> Result<(), ShelfError>
-        ensures told { told self.new ≡ told self.old }
+        ensures still_tells { told self.new ≡ told self.old }
         ensures added { IsTrue (told self.old)
             → OnOk result (Has (files self.new) name.now (bytes_of (files self.old) name.now ++ bytes.now)) }
         ensures others { IsTrue (told self.old) → OthersStand (files self.old) (files self.new) name.now }
-        ensures later { faults self.old ≤ faults self.new }
+        ensures faults_grow { faults self.old ≤ faults self.new }
         ensures cause { FailedAfter (Writing name.now) result
             (faults self.old) (faults self.new) (failed self.old) (failed self.new) };
 }

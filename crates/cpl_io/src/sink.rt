@@ -29,10 +29,10 @@ pub trait Sink {
 
     /// Appends all the bytes. After an `Err` a front of them was appended.
     fn put(&mut self, bytes: &[u8]) -> Result<(), SinkError>
-        ensures told { told self.new ≡ told self.old }
+        ensures still_tells { told self.new ≡ told self.old }
         ensures ok { IsTrue (told self.old) → OnOk result (written self.new ≡ written self.old ++ bytes.now) }
         ensures err { IsTrue (told self.old)
             → OnErr result (AppendsFront (written self.old) (written self.new) bytes.now) }
-        ensures later { faults self.old ≤ faults self.new }
+        ensures faults_grow { faults self.old ≤ faults self.new }
         ensures cause { RoseAfter result (faults self.old) (faults self.new) };
 }

@@ -7,7 +7,8 @@ loop-chunk-preserved g c =
     record {
       told = search rules;
       files = search rules;
-      later = search rules;
+      faults = search rules;
+      failed = search rules;
       room = omega (arith, c.read_at.auto.buf, c.loop-chunk.invariant.room);
       within = search rules;
       bytes = λ told.

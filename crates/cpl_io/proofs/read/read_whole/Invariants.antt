@@ -8,7 +8,8 @@ invariant-loop-chunk g l =
     record {
       told : shelf.told l.shelf ≡ shelf.told l.fn.shelf;
       files : shelf.files l.shelf ≡ shelf.files l.fn.shelf;
-      later : shelf.faults l.fn.shelf ≤ shelf.faults l.shelf;
+      faults : shelf.faults l.shelf ≡ shelf.faults l.fn.shelf;
+      failed : shelf.failed l.shelf ≡ shelf.failed l.fn.shelf;
       room : 0 < length l.chunk;
       within : length l.bytes.items ≤ l.limit;
       bytes : IsTrue (shelf.told l.fn.shelf) → l.bytes.items ≡ take (length l.bytes.items) (bytes_of (shelf.files l.fn.shelf) l.name);
