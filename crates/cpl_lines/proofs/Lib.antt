@@ -1,0 +1,10 @@
+pub mod Binds
+pub mod Numerals
+pub mod Fields
+pub mod Rows
+pub mod Turns
+pub mod Progress
+pub mod Pushed
+pub mod Paths
+pub mod RowForms
+pub mod Printed
