@@ -66,7 +66,7 @@ tile_within tiles t k side within = elim (cases_lt t (length tiles)) [
       absurd (omega arith)
 ]
 
--- each side along an edge is a side of a cell, with none behind it
+-- each side along an edge is a side of a cell, with none across it
 edge_sides : (tiles : List Tile) (t k : ℕ) (side : Side) → IsTile (tile_at tiles t) → k < edge_length (tile_at tiles t) side → IsEdgeSide tiles (edge_side tiles t side k)
 edge_sides tiles t k W sizes within = let nx = sizes.nx_least in record { cell = record { column = omega arith; row = within }; edge = refl }
 edge_sides tiles t k E sizes within =

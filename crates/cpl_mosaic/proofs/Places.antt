@@ -8,11 +8,11 @@ use Rattle.cpl_mosaic.specs.declared.parts.Side.{Side}
 use Rattle.cpl_mosaic.specs.declared.parts.Side.TheVariants.{W, E, S, N}
 use Rattle.cpl_mosaic.specs.declared.parts.CellId.{CellId}
 use Rattle.cpl_mosaic.specs.declared.parts.Tile.{Tile}
-use Rattle.cpl_mosaic.specs.declared.starts.Start.{Start}
+use Rattle.cpl_mosaic.specs.declared.offsets.TileOffset.{TileOffset}
 use Rattle.cpl_mosaic.specs.Sides.{CellSide, tile_at, neighbour, IsCellOf, IsEdgeSide}
 use Rattle.cpl_mosaic.specs.Contacts.{IsTile, AreTiles, cells_of}
 use Rattle.cpl_mosaic.specs.Cells.{number_of}
-use Rattle.cpl_mosaic.specs.Table.{sides_of, start_at, starts_of, place_in, place_of}
+use Rattle.cpl_mosaic.specs.Table.{sides_of, offset_at, offsets_of, place_in, place_of}
 
 -- a cell's tile is in the list
 pub tile_in : (tiles : List Tile) (cell : CellId) → IsCellOf tiles cell → cell.tile < length tiles
@@ -147,16 +147,16 @@ same_place tiles a b is_a is_b e =
     let same = same_on_tile (tile_at tiles a.0.tile) a.0 b.0 a.1 b.1 (at_edge (tile_at tiles a.0.tile) a.0 a.1 is_a.edge) b_at is_a.cell.column is_a.cell.row column row there in
     λ s. (record { tile = tile s; i = same.0 s; j = same.1 s }, same.2 s)
 
--- the starts: how many they are, and each
-pub count_starts : (tiles : List Tile) (starts : List Start) → starts ≡ starts_of tiles → length starts ≡ length tiles + 1
-count_starts tiles starts is = ap length is ∙ length-map-range_with_len (start_at tiles) 0 (length tiles + 1)
+-- the offsets: how many they are, and each
+pub count_offsets : (tiles : List Tile) (offsets : List TileOffset) → offsets ≡ offsets_of tiles → length offsets ≡ length tiles + 1
+count_offsets tiles offsets is = ap length is ∙ length-map-range_with_len (offset_at tiles) 0 (length tiles + 1)
 
-pub start_read : (tiles : List Tile) (starts : List Start) (t : ℕ) (d : Start) → starts ≡ starts_of tiles → t ≤ length tiles → get_or starts t d ≡ start_at tiles t
-start_read tiles starts t d is upto =
-    ap (λ (l : List Start). get_or l t d) is ∙ get_or-map-range_with_len (start_at tiles) 0 (length tiles + 1) t t d (omega arith) (omega arith)
+pub offset_read : (tiles : List Tile) (offsets : List TileOffset) (t : ℕ) (d : TileOffset) → offsets ≡ offsets_of tiles → t ≤ length tiles → get_or offsets t d ≡ offset_at tiles t
+offset_read tiles offsets t d is upto =
+    ap (λ (l : List TileOffset). get_or l t d) is ∙ get_or-map-range_with_len (offset_at tiles) 0 (length tiles + 1) t t d (omega arith) (omega arith)
 
--- the totals stand after the starts
-pub totals : (tiles : List Tile) → start_at tiles (length tiles) ≡ record { cells = cells_of tiles; sides = sides_of tiles }
+-- the totals stand after the offsets
+pub totals : (tiles : List Tile) → offset_at tiles (length tiles) ≡ record { cells = cells_of tiles; sides = sides_of tiles }
 totals tiles =
     let all = take_all (length tiles) tiles (omega arith) in
     λ s. record { cells = cells_of (all s); sides = sides_of (all s) }
@@ -177,18 +177,18 @@ sides_fit tiles t sizes below =
     let most = sizes.most in
     omega arith
 
--- the start of the next tile
-pub start_more : (tiles : List Tile) (t : ℕ) → start_at tiles (t + 1) ≡ record { cells = cells_of (take t tiles) + (tile_at tiles t).nx * (tile_at tiles t).ny; sides = sides_of (take t tiles) + 2 * ((tile_at tiles t).nx + (tile_at tiles t).ny) }
-start_more tiles t =
+-- the offset of the next tile
+pub offset_more : (tiles : List Tile) (t : ℕ) → offset_at tiles (t + 1) ≡ record { cells = cells_of (take t tiles) + (tile_at tiles t).nx * (tile_at tiles t).ny; sides = sides_of (take t tiles) + 2 * ((tile_at tiles t).nx + (tile_at tiles t).ny) }
+offset_more tiles t =
     let next = add-one t in
     let cells = ap (λ (n : ℕ). cells_of (take n tiles)) next ∙ cells_more tiles t in
     let sides = ap (λ (n : ℕ). sides_of (take n tiles)) next ∙ sides_more tiles t in
     λ s. record { cells = cells s; sides = sides s }
 
--- a cell's number, from the start of its tile
-pub number_is : (tiles : List Tile) (starts : List Start) (cell : CellId) (start : Start) (tile : Tile) → starts ≡ starts_of tiles → IsCellOf tiles cell → start ≡ get_or starts cell.tile start → tile ≡ get_or tiles cell.tile tile → start.cells + cell.j * tile.nx + cell.i ≡ number_of tiles cell
-number_is tiles starts cell start tile begin is start_is tile_is =
+-- a cell's number, from the offset of its tile
+pub number_is : (tiles : List Tile) (offsets : List TileOffset) (cell : CellId) (offset : TileOffset) (tile : Tile) → offsets ≡ offsets_of tiles → IsCellOf tiles cell → offset ≡ get_or offsets cell.tile offset → tile ≡ get_or tiles cell.tile tile → offset.cells + cell.j * tile.nx + cell.i ≡ number_of tiles cell
+number_is tiles offsets cell offset tile begin is offset_is tile_is =
     let below = tile_in tiles cell is in
-    let before : start.cells ≡ cells_of (take cell.tile tiles) = ap (λ (s : Start). s.cells) (start_is ∙ start_read tiles starts cell.tile start begin (omega arith)) in
+    let before : offset.cells ≡ cells_of (take cell.tile tiles) = ap (λ (s : TileOffset). s.cells) (offset_is ∙ offset_read tiles offsets cell.tile offset begin (omega arith)) in
     let rows : cell.j * tile.nx ≡ cell.j * (tile_at tiles cell.tile).nx = ap (λ (t : Tile). cell.j * t.nx) (tile_is ∙ get_or_default tiles cell.tile tile (record { nx = 0; ny = 0 }) below) in
     omega arith

@@ -1,10 +1,13 @@
 -- The first contact that a test refuses, found contact by contact.
-use Rattle.std.proofs.Common.{◌≡◌, sym, ◌∙◌, ap, Bool, true, false, not, ℕ, zero, suc, ◌+◌, ◌<◌, ◌≤◌, arith, List, [], ◌∷◌, ◌++◌, length, get_or, take, drop, Some, None, inl, inr}
+use Rattle.std.proofs.Common.{◌≡◌, refl, sym, ◌∙◌, ap, Bool, true, false, not, ℕ, zero, suc, ◌+◌, ◌<◌, ◌≤◌, arith, List, [], ◌∷◌, ◌++◌, length, get_or, take, drop, Option, Some, None, inl, inr}
 use Rattle.std.specs.Prelude.{All}
 use Rattle.std.proofs.lemmas.Bool.{cond-true, cond-false, cases_Bool, not-false}
 use Rattle.std.proofs.lemmas.List.{drop_more, take_more, drop_all, length-take-le}
 use Rattle.cpl_mosaic.specs.declared.parts.Contact.{Contact}
-use Rattle.cpl_mosaic.specs.Contacts.{first_refused}
+use Rattle.cpl_mosaic.specs.declared.parts.Tile.{Tile}
+use Rattle.cpl_mosaic.specs.declared.parts.MosaicError.{MosaicError}
+use Rattle.cpl_mosaic.specs.declared.parts.MosaicError.TheVariants.{ContactRange}
+use Rattle.cpl_mosaic.specs.Contacts.{as_fault, first_refused, is_in_range, range_fault}
 
 -- the test passes all contacts before the n-th
 abbrev pub PassedTo : (List Contact → Contact → Bool) → List Contact → ℕ → Type 0
@@ -36,7 +39,7 @@ each_from P contact contacts first rest zero d below = first
 each_from P contact contacts first rest (suc k) d below = rest k d (omega arith)
 
 -- a test that refuses none passes each contact
-pub passes_each : (test : Contact → Bool) (earlier contacts : List Contact) → first_refused (λ _ contact. not (test contact)) earlier contacts ≡ None → All (λ contact. test contact ≡ true) contacts
+passes_each : (test : Contact → Bool) (earlier contacts : List Contact) → first_refused (λ _ contact. not (test contact)) earlier contacts ≡ None → All (λ contact. test contact ≡ true) contacts
 passes_each test earlier [] e k d below = absurd (omega arith)
 passes_each test earlier (contact ∷ contacts) e k d below =
     let rest = first_refused (λ (_ : List Contact) (x : Contact). not (test x)) (earlier ++ contact ∷ []) contacts in
@@ -46,3 +49,13 @@ passes_each test earlier (contact ∷ contacts) e k d below =
           let later = sym (cond-false (not (test contact)) (Some (length earlier)) (first_refused (λ (_ : List Contact) (x : Contact). not (test x)) (earlier ++ contact ∷ []) contacts) passed) ∙ e in
           each_from (λ (x : Contact). test x ≡ true) contact contacts (not-false (test contact) passed) (passes_each test (earlier ++ contact ∷ []) contacts later) k d below
     ]
+
+-- no fault is no contact
+no_fault : (fault : ℕ → MosaicError) (n : Option ℕ) → as_fault fault n ≡ None → n ≡ None
+no_fault fault None e = refl
+no_fault fault (Some n) e = absurd (cc)
+
+-- where no contact breaks the rule of ranges, each keeps it
+pub no_range_fault : (tiles : List Tile) (contacts : List Contact) → range_fault tiles contacts ≡ None → All (λ contact. is_in_range tiles contact ≡ true) contacts
+no_range_fault tiles contacts e =
+    passes_each (is_in_range tiles) [] contacts (no_fault ContactRange (first_refused (λ _ contact. not (is_in_range tiles contact)) [] contacts) e)

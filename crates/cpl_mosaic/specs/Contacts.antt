@@ -1,6 +1,7 @@
 -- The sides that a contact joins, and the rules of contacts.
-use Rattle.std.specs.Prelude.{◌≡◌, ℕ, ◌+◌, ◌-◌, ◌*◌, ◌^◌, ◌≤◌, ◌==◌, ◌&&◌, ◌||◌, not, nat_le, nat_lt, Bool, List, [], ◌∷◌, ◌++◌, map, length, Option, Some, None, if◌then◌else◌, All}
+use Rattle.std.specs.Prelude.{◌≡◌, ℕ, ◌+◌, ◌-◌, ◌*◌, ◌≤◌, ◌==◌, ◌&&◌, ◌||◌, not, nat_le, nat_lt, Bool, List, [], ◌∷◌, ◌++◌, map, length, Option, Some, None, if◌then◌else◌, All}
 use Rattle.std.specs.List.{list_any, range_with_len, flat_map}
+use Rattle.cpl_fixed.specs.declared.limits.TheConstants.{LONGEST_SIDE, MOST_TILES, MOST_CELLS, MOST_CONTACTS}
 use Rattle.cpl_mosaic.specs.declared.parts.Tile.{Tile}
 use Rattle.cpl_mosaic.specs.declared.parts.Span.{Span}
 use Rattle.cpl_mosaic.specs.declared.parts.Contact.{Contact}
@@ -73,13 +74,21 @@ abbrev pub as_fault : (ℕ → MosaicError) → Option ℕ → Option MosaicErro
 as_fault fault (Some n) = Some (fault n)
 as_fault fault None = None
 
--- The first broken rule: contact ranges over all contacts, then no contact twice, then no side meets itself. Each at its
--- least contact.
+-- the first contact with a range that breaks the rule
+abbrev pub range_fault : List Tile → List Contact → Option MosaicError
+range_fault tiles contacts = as_fault ContactRange (first_refused (λ earlier contact. not (is_in_range tiles contact)) [] contacts)
+
+-- the first contact that joins a side twice
+abbrev pub twice_fault : List Tile → List Contact → Option MosaicError
+twice_fault tiles contacts = as_fault ContactTwice (first_refused (joins_twice tiles) [] contacts)
+
+-- the first contact that joins a side to itself
+abbrev pub self_meeting_fault : List Tile → List Contact → Option MosaicError
+self_meeting_fault tiles contacts = as_fault SelfMeet (first_refused (λ earlier contact. meets_itself tiles contact) [] contacts)
+
+-- The first broken rule: ranges over all contacts, then no contact twice, then no side meets itself.
 abbrev pub contact_fault : List Tile → List Contact → Option MosaicError
-contact_fault tiles contacts =
-    or_else (as_fault ContactRange (first_refused (λ earlier contact. not (is_in_range tiles contact)) [] contacts))
-    (or_else (as_fault ContactTwice (first_refused (joins_twice tiles) [] contacts))
-    (as_fault SelfMeet (first_refused (λ earlier contact. meets_itself tiles contact) [] contacts)))
+contact_fault tiles contacts = or_else (range_fault tiles contacts) (or_else (twice_fault tiles contacts) (self_meeting_fault tiles contacts))
 
 -- what making a mosaic answers is the first broken rule, or that there was no memory
 abbrev pub IsFirstFault : Option MosaicError → MosaicError → Type 0
@@ -94,19 +103,19 @@ cells_of (tile ∷ tiles) = tile.nx * tile.ny + cells_of tiles
 -- a tile's sides are 1 to 1,024
 pub record IsTile (tile : Tile) : Type 0 where
   pub nx_least : 1 ≤ tile.nx
-  pub nx_most : tile.nx ≤ 1024
+  pub nx_most : tile.nx ≤ LONGEST_SIDE
   pub ny_least : 1 ≤ tile.ny
-  pub ny_most : tile.ny ≤ 1024
+  pub ny_most : tile.ny ≤ LONGEST_SIDE
 
 -- 1 to 16 tiles, of at most 2^18 cells together
 pub record AreTiles (tiles : List Tile) : Type 0 where
   pub least : 1 ≤ length tiles
-  pub most : length tiles ≤ 16
+  pub most : length tiles ≤ MOST_TILES
   pub each : All IsTile tiles
-  pub cells : cells_of tiles ≤ 2 ^ 18
+  pub cells : cells_of tiles ≤ MOST_CELLS
 
 -- tiles within the limits and at most 256 contacts, which keep the rules
 pub record IsMosaic (tiles : List Tile) (contacts : List Contact) : Type 0 where
   pub sizes : AreTiles tiles
-  pub few : length contacts ≤ 256
+  pub few : length contacts ≤ MOST_CONTACTS
   pub rules : contact_fault tiles contacts ≡ None

@@ -8,7 +8,7 @@ use Rattle.cpl_mosaic.specs.Lists.{MosaicLists}
 use Rattle.cpl_mosaic.specs.Sides.{CellSide, opposite, neighbour, tile_at, is_same_side, IsCellOf}
 use Rattle.cpl_mosaic.specs.Contacts.{all_joins}
 
--- two sides meet inside a tile, where each cell lies behind the other's side, or by a contact
+-- two sides meet inside a tile, where each cell lies across the other's side, or by a contact
 abbrev pub Meets : MosaicLists → CellSide → CellSide → Type 0
 Meets mosaic a b =
     ((neighbour (tile_at mosaic.tiles a.0.tile) a.0 a.1 ≡ Some b.0) × (b.1 ≡ opposite a.1))
@@ -18,7 +18,7 @@ Meets mosaic a b =
 abbrev pub IsWall : MosaicLists → CellSide → Type 0
 IsWall mosaic a = (b : CellSide) → Meets mosaic a b → ⊥
 
--- the cell behind a side inside the tile, entered through the opposite side; else what a contact joins to the side
+-- the cell across a side inside the tile, entered through the opposite side; else what a contact joins to the side
 abbrev pub or_joined : Option CellId → Side → List (CellSide × CellSide) → CellSide → Option CellSide
 or_joined (Some cell) side joins a = Some (cell, opposite side)
 or_joined None side joins a = option_map (λ pair. pair.1) (find (λ pair. is_same_side a pair.0) joins)

@@ -37,7 +37,7 @@ pub record IsCellOf (tiles : List Tile) (cell : CellId) : Type 0 where
   pub column : cell.i < (tile_at tiles cell.tile).nx
   pub row : cell.j < (tile_at tiles cell.tile).ny
 
--- the cell behind a side, in the same tile
+-- the cell across a side, in the same tile
 abbrev pub neighbour : Tile → CellId → Side → Option CellId
 neighbour tile cell W = if cell.i == 0 then None else Some (record { tile = cell.tile; i = cell.i - 1; j = cell.j })
 neighbour tile cell E = if cell.i + 1 == tile.nx then None else Some (record { tile = cell.tile; i = cell.i + 1; j = cell.j })

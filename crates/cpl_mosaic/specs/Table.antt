@@ -7,7 +7,7 @@ use Rattle.cpl_mosaic.specs.declared.parts.Contact.{Contact}
 use Rattle.cpl_mosaic.specs.declared.parts.Side.{Side}
 use Rattle.cpl_mosaic.specs.declared.parts.Side.TheVariants.{W, E, S, N}
 use Rattle.cpl_mosaic.specs.declared.parts.CellId.{CellId}
-use Rattle.cpl_mosaic.specs.declared.starts.Start.{Start}
+use Rattle.cpl_mosaic.specs.declared.offsets.TileOffset.{TileOffset}
 use Rattle.cpl_mosaic.specs.Sides.{CellSide, tile_at, is_same_side, IsEdgeSide}
 use Rattle.cpl_mosaic.specs.Contacts.{all_joins, cells_of, IsMosaic}
 
@@ -17,12 +17,12 @@ sides_of [] = 0
 sides_of (tile ∷ tiles) = 2 * (tile.nx + tile.ny) + sides_of tiles
 
 -- the cells and the edge sides of the tiles before the t-th
-abbrev pub start_at : List Tile → ℕ → Start
-start_at tiles t = record { cells = cells_of (take t tiles); sides = sides_of (take t tiles) }
+abbrev pub offset_at : List Tile → ℕ → TileOffset
+offset_at tiles t = record { cells = cells_of (take t tiles); sides = sides_of (take t tiles) }
 
--- the starts of all tiles, and after them the totals
-abbrev pub starts_of : List Tile → List Start
-starts_of tiles = map (start_at tiles) (range_with_len 0 (length tiles + 1))
+-- the offsets of all tiles, and after them the totals
+abbrev pub offsets_of : List Tile → List TileOffset
+offsets_of tiles = map (offset_at tiles) (range_with_len 0 (length tiles + 1))
 
 -- the place of a side among those along the edges of its tile: W, E, S, N, each edge in its order
 abbrev pub place_in : Tile → CellId → Side → ℕ
@@ -64,7 +64,7 @@ with_joins tiles [] table = Some table
 with_joins tiles (pair ∷ joins) table = option_and_then (with_joins tiles joins) (with_join tiles table pair)
 
 -- what a mosaic keeps beside its lists
-pub record IsKept (tiles : List Tile) (contacts : List Contact) (starts : List Start) (table : List (Option CellSide)) : Type 0 where
+pub record IsKept (tiles : List Tile) (contacts : List Contact) (offsets : List TileOffset) (table : List (Option CellSide)) : Type 0 where
   pub mosaic : IsMosaic tiles contacts
-  pub begin : starts ≡ starts_of tiles
+  pub begin : offsets ≡ offsets_of tiles
   pub joined : IsTable tiles (all_joins tiles contacts) table

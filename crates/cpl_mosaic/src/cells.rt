@@ -5,7 +5,7 @@ ghost use Rattle.cpl_mosaic.specs.Cells.{cell_of};
 
 use crate::{CellId, Tile};
 
-/// The cell of a number in whole order.
+// The cell of a number in whole order.
 pub(crate) fn cell_of(tiles: &[Tile], number: u32) -> CellId
     requires sizes { AreTiles tiles.now }
     requires within { number < cells_of tiles.now }

@@ -1,12 +1,13 @@
 // The sides that a contact joins, and two rules of contacts: ranges, and no side that meets itself.
-ghost use Rattle.std.specs.Prelude.{◌≡◌, ◌+◌, ◌-◌, ◌*◌, ◌^◌, ◌<◌, ◌≤◌, [], true, not, length, All, slice_index_or};
+ghost use Rattle.std.specs.Prelude.{◌≡◌, ◌+◌, ◌-◌, ◌*◌, ◌^◌, ◌<◌, ◌≤◌, true, length, All, Some, None, OnOk, IfErr, slice_index_or};
 ghost use Rattle.cpl_mosaic.specs.Sides.{IsEdgeSide};
-ghost use Rattle.cpl_mosaic.specs.Contacts.{IsTile, span_length, span_is_inside, is_in_range, joined_pair, joins_of, meets_itself, first_refused};
+ghost use Rattle.cpl_mosaic.specs.Contacts.{IsTile, span_length, span_is_inside, is_in_range, joined_pair, joins_of, meets_itself, range_fault, self_meeting_fault};
 
 use crate::sides::{edge_length, edge_side, is_same_side};
-use crate::{CellId, Contact, Side, Span, Tile};
+use crate::{CellId, Contact, MosaicError, Side, Span, Tile};
+use cpl_fixed::{LONGEST_SIDE, MOST_CONTACTS};
 
-/// Whether a range lies in the mosaic, its ends in order.
+// Whether a range lies in the mosaic, its ends in order.
 pub(crate) fn span_is_inside(tiles: &[Tile], span: Span) -> bool
     ensures { result ≡ span_is_inside tiles.now span }
 {
@@ -16,15 +17,15 @@ pub(crate) fn span_is_inside(tiles: &[Tile], span: Span) -> bool
     }
 }
 
-/// How many sides a range has.
+// How many sides a range has.
 pub(crate) fn span_length(span: Span) -> u32
-    requires { span_length span ≤ 1024 }
+    requires { span_length span ≤ LONGEST_SIDE }
     ensures { result ≡ span_length span }
 {
     span.hi.saturating_sub(span.lo) + 1
 }
 
-/// Whether both ranges of a contact lie in the mosaic, their ends in order, and are equally long.
+// Whether both ranges of a contact lie in the mosaic, their ends in order, and are equally long.
 pub(crate) fn is_in_range(tiles: &[Tile], contact: Contact) -> bool
     ensures { result ≡ is_in_range tiles.now contact }
 {
@@ -33,20 +34,21 @@ pub(crate) fn is_in_range(tiles: &[Tile], contact: Contact) -> bool
         && contact.first.hi - contact.first.lo == contact.second.hi - contact.second.lo
 }
 
-/// The number of the first contact with a range that breaks the rule.
-pub(crate) fn range_fault(tiles: &[Tile], contacts: &[Contact]) -> Option<u32>
-    requires { length contacts.now ≤ 256 }
-    ensures { result ≡ first_refused (λ earlier contact. not (is_in_range tiles.now contact)) [] contacts.now }
+// Refuses the first contact with a range that breaks the rule.
+pub(crate) fn check_ranges(tiles: &[Tile], contacts: &[Contact]) -> Result<(), MosaicError>
+    requires { length contacts.now ≤ MOST_CONTACTS }
+    ensures kept { OnOk result (range_fault tiles.now contacts.now ≡ None) }
+    ensures broken { IfErr result (λ fault. range_fault tiles.now contacts.now ≡ Some fault) }
 {
     for (n, contact) in contacts.iter().enumerate() {
         if !is_in_range(tiles, *contact) {
-            return Some(n as u32);
+            return Err(MosaicError::ContactRange(n as u32));
         }
     }
-    None
+    Ok(())
 }
 
-/// The k-th pair of sides that a contact joins.
+// The k-th pair of sides that a contact joins.
 pub(crate) fn joined_pair(
     tiles: &[Tile],
     contact: Contact,
@@ -69,7 +71,7 @@ pub(crate) fn joined_pair(
     )
 }
 
-/// The m-th join of a contact: its pairs, and then the same pairs, each seen from its second side.
+// The m-th join of a contact: its pairs, and then the same pairs, each seen from its second side.
 pub(crate) fn join_at(tiles: &[Tile], contact: Contact, m: u32) -> ((CellId, Side), (CellId, Side))
     requires sizes { All IsTile tiles.now }
     requires range { is_in_range tiles.now contact ≡ true }
@@ -86,7 +88,7 @@ pub(crate) fn join_at(tiles: &[Tile], contact: Contact, m: u32) -> ((CellId, Sid
     }
 }
 
-/// Whether a contact joins a side to itself.
+// Whether a contact joins a side to itself.
 pub(crate) fn meets_itself(tiles: &[Tile], contact: Contact) -> bool
     requires sizes { All IsTile tiles.now }
     requires range { is_in_range tiles.now contact ≡ true }
@@ -101,17 +103,18 @@ pub(crate) fn meets_itself(tiles: &[Tile], contact: Contact) -> bool
     false
 }
 
-/// The number of the first contact that joins a side to itself.
-pub(crate) fn self_meeting(tiles: &[Tile], contacts: &[Contact]) -> Option<u32>
+// Refuses the first contact that joins a side to itself.
+pub(crate) fn check_self_meetings(tiles: &[Tile], contacts: &[Contact]) -> Result<(), MosaicError>
     requires sizes { All IsTile tiles.now }
     requires ranges { All (λ contact. is_in_range tiles.now contact ≡ true) contacts.now }
-    requires few { length contacts.now ≤ 256 }
-    ensures { result ≡ first_refused (λ earlier contact. meets_itself tiles.now contact) [] contacts.now }
+    requires few { length contacts.now ≤ MOST_CONTACTS }
+    ensures kept { OnOk result (self_meeting_fault tiles.now contacts.now ≡ None) }
+    ensures broken { IfErr result (λ fault. self_meeting_fault tiles.now contacts.now ≡ Some fault) }
 {
     for (n, contact) in contacts.iter().enumerate() {
         if meets_itself(tiles, *contact) {
-            return Some(n as u32);
+            return Err(MosaicError::SelfMeet(n as u32));
         }
     }
-    None
+    Ok(())
 }

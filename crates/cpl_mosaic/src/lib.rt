@@ -1,12 +1,12 @@
-//! Mosaics: tiles of cells, joined by contacts. What stands behind each side of each cell.
+//! Mosaics: tiles of cells, joined by contacts. What lies across each side of each cell.
 #![tactic(auto)]
 
 mod cells;
 mod contacts;
 mod mosaic;
+mod offsets;
 mod parts;
 mod sides;
-mod starts;
 mod table;
 
 pub use mosaic::{Mesh, Mosaic};

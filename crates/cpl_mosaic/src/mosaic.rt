@@ -6,12 +6,12 @@ ghost use Rattle.cpl_mosaic.specs.Mates.{MatesAgree, Meets, IsWall, mate_of, wal
 ghost use Rattle.cpl_mosaic.specs.Cells.{NumbersAgree, number_of, cell_of};
 
 use crate::cells::cell_of;
-use crate::contacts::{range_fault, self_meeting};
+use crate::contacts::{check_ranges, check_self_meetings};
+use crate::offsets::{TileOffset, offsets_of, place};
 use crate::sides::{neighbour, opposite};
-use crate::starts::{Start, place, starts_of};
-use crate::table::{join_all, table_of_walls};
+use crate::table::joined_table;
 use crate::{CellId, Contact, MosaicError, Side, Tile};
-use sqlite_items::Items;
+use cpl_fixed::{List, MOST_CONTACTS};
 use std::alloc::Global;
 use std::marker::Model;
 
@@ -23,7 +23,7 @@ use std::marker::Model;
 pub struct Mosaic {
     tiles: Vec<Tile>,
     contacts: Vec<Contact>,
-    starts: Vec<Start>,
+    offsets: Vec<TileOffset>,
     table: Vec<Option<(CellId, Side)>>,
 }
 
@@ -35,14 +35,14 @@ impl Model for Mosaic {
 
     ghost view = { λ a. record { tiles = a.tiles.items; contacts = a.contacts.items } };
 
-    ghost invariant = { λ a. IsKept a.tiles.items a.contacts.items a.starts.items a.table.items };
+    ghost invariant = { λ a. IsKept a.tiles.items a.contacts.items a.offsets.items a.table.items };
 }
 
 /// A mosaic with the area of each of its cells, in whole order: 0 to 2^40 each, and above 0 for the air.
 #[derive(Drop)]
 pub struct Mesh {
     pub mosaic: Mosaic,
-    pub area: Items<i64>,
+    pub area: List<i64>,
 }
 
 impl Mosaic {
@@ -50,30 +50,23 @@ impl Mosaic {
     ///
     /// The first broken rule decides: all contacts are judged by their ranges, then all by joining no side twice, then all
     /// by joining no side to itself. Its time is linear in the sides along the tiles' edges and those that the contacts
-    /// join. It takes memory for the two lists, the table and a start for each tile.
+    /// join. It takes memory for the two lists, the table and an offset for each tile.
     pub fn new(alloc: Global, tiles: &[Tile], contacts: &[Contact]) -> Result<Mosaic, MosaicError>
         requires sizes { AreTiles tiles.now }
-        requires few { length contacts.now ≤ 256 }
+        requires few { length contacts.now ≤ MOST_CONTACTS }
         ensures tiles { IfOk result (λ mosaic. mosaic.tiles ≡ tiles.now) }
         ensures contacts { IfOk result (λ mosaic. mosaic.contacts ≡ contacts.now) }
         ensures rules { IfOk result (λ mosaic. contact_fault tiles.now contacts.now ≡ None) }
         ensures fault { IfErr result (IsFirstFault (contact_fault tiles.now contacts.now)) }
     {
-        if let Some(n) = range_fault(tiles, contacts) {
-            return Err(MosaicError::ContactRange(n));
-        }
-        let starts = starts_of(alloc, tiles)?;
-        let mut table = table_of_walls(alloc, tiles, &starts)?;
-        if let Some(n) = join_all(tiles, &starts, contacts, &mut table) {
-            return Err(MosaicError::ContactTwice(n));
-        }
-        if let Some(n) = self_meeting(tiles, contacts) {
-            return Err(MosaicError::SelfMeet(n));
-        }
+        check_ranges(tiles, contacts)?;
+        let offsets = offsets_of(alloc, tiles)?;
+        let table = joined_table(alloc, tiles, &offsets, contacts)?;
+        check_self_meetings(tiles, contacts)?;
         Ok(Mosaic {
             tiles: tiles.to_vec(alloc)?,
             contacts: contacts.to_vec(alloc)?,
-            starts,
+            offsets,
             table,
         })
     }
@@ -88,7 +81,7 @@ impl Mosaic {
     {
         match neighbour(self.tiles[cell.tile as usize], cell, side) {
             Some(cell) => Some((cell, opposite(side))),
-            None => self.table[place(&self.tiles, &self.starts, cell, side)],
+            None => self.table[place(&self.tiles, &self.offsets, cell, side)],
         }
     }
 
@@ -114,7 +107,7 @@ impl Mosaic {
         ensures mates { MatesAgree self.now }
         ensures numbers { NumbersAgree self.now.tiles }
     {
-        self.starts[self.tiles.len()].cells
+        self.offsets[self.tiles.len()].cells
     }
 
     /// The number of a cell in whole order.
@@ -123,7 +116,7 @@ impl Mosaic {
         ensures { result ≡ number_of self.now.tiles cell }
     {
         let t = cell.tile as usize;
-        self.starts[t].cells + cell.j * self.tiles[t].nx + cell.i
+        self.offsets[t].cells + cell.j * self.tiles[t].nx + cell.i
     }
 
     /// The cell of a number.

@@ -59,7 +59,7 @@ pub enum MosaicError {
     ContactTwice(u32),
     /// The least contact that joins a side to itself.
     SelfMeet(u32),
-    /// There was no memory.
+    /// Out of memory.
     Memory,
 }
 

@@ -5,7 +5,7 @@ ghost use Rattle.cpl_mosaic.specs.Contacts.{IsTile};
 
 use crate::{CellId, Side, Tile};
 
-/// The side across the cell.
+// The side across the cell.
 pub(crate) fn opposite(side: Side) -> Side
     ensures { result ≡ opposite side }
 {
@@ -17,14 +17,14 @@ pub(crate) fn opposite(side: Side) -> Side
     }
 }
 
-/// Whether two sides of cells are one.
+// Whether two sides of cells are one.
 pub(crate) fn is_same_side(a: (CellId, Side), b: (CellId, Side)) -> bool
     ensures { result ≡ is_same_side a b }
 {
     a == b
 }
 
-/// The cell behind a side, in the same tile.
+// The cell across a side, in the same tile.
 pub(crate) fn neighbour(tile: Tile, cell: CellId, side: Side) -> Option<CellId>
     requires column { cell.i < tile.nx }
     requires row { cell.j < tile.ny }
@@ -51,7 +51,7 @@ pub(crate) fn neighbour(tile: Tile, cell: CellId, side: Side) -> Option<CellId>
     }
 }
 
-/// How many sides an edge of a tile has.
+// How many sides an edge of a tile has.
 pub(crate) fn edge_length(tile: Tile, side: Side) -> u32
     ensures { result ≡ edge_length tile side }
 {
@@ -61,7 +61,7 @@ pub(crate) fn edge_length(tile: Tile, side: Side) -> u32
     }
 }
 
-/// The k-th side along an edge of a tile.
+// The k-th side along an edge of a tile.
 pub(crate) fn edge_side(tiles: &[Tile], t: u32, side: Side, k: u32) -> (CellId, Side)
     requires sizes { All IsTile tiles.now }
     requires tile { t < length tiles.now }
