@@ -1,0 +1,9 @@
+pub mod Counts
+pub mod Filling
+pub mod Offsets
+pub mod Faults
+pub mod CellNumbers
+pub mod CellRefs
+pub mod Sums
+pub mod Parents
+pub mod Building

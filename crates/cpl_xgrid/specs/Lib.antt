@@ -1,0 +1,6 @@
+pub mod Groups
+pub mod Lists
+pub mod Rows
+pub mod Rules
+pub mod Indexes
+pub mod Grids

@@ -1,0 +1,12 @@
+use Rattle.std.proofs.Common.{get_or, pos, rules, arith}
+use mir.Val.{SFits}
+use mir.Syntax.{w64}
+use Rattle.std.proofs.lemmas.Int.{ints}
+use Rattle.cpl_xgrid.specs.Lists.{IsArea}
+use Rattle.cpl_xgrid_tests.proofs.Each.{each_more}
+use Rattle.cpl_xgrid_tests.proofs.grids.are_areas.Goals as goal
+
+pub loop-a-preserved : goal.loop-a-preserved
+loop-a-preserved c =
+    let fits : SFits w64 (get_or c.args.area.now c.loop-a.a-index (pos 0)) = search rules in
+    each_more IsArea c.args.area.now c.loop-a.a-index (pos 0) c.loop-a-test.true c.loop-a.invariant (grind (arith, ints), grind (arith, ints))
