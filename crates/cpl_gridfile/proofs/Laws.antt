@@ -1,126 +1,139 @@
--- The laws of reading: what is read is the one spelling of an air grid, that spelling is read, and the fault that is told is
--- the first.
-use Rattle.std.proofs.Common.{◌≡◌, ◌≢◌, ◌∙◌, refl, sym, ap, subst, ℕ, ◌+◌, List, length, Option, Some, None, Result, Ok, Err, arith}
-use Rattle.std.specs.List.{flat_map, position}
-use Rattle.cpl_mosaic.specs.declared.parts.MosaicError.{MosaicError}
-use Rattle.cpl_mosaic.specs.declared.parts.MosaicError.TheVariants as mosaic
-use Rattle.cpl_mosaic.specs.declared.mosaic.Mesh.{Mesh}
-use Rattle.cpl_mosaic.specs.Contacts.{contact_fault}
+-- The laws of reading grids of a kind: what is read is the one spelling of a grid, that spelling is read, and the fault that
+-- is told is the first.
+use Rattle.std.proofs.Common.{◌≡◌, ◌≢◌, ◌∙◌, refl, ap, subst, ℕ, List, Option, Some, None, Result, Ok, Err}
+use Rattle.std.specs.Prelude.{IfOk, IfErr}
+use Rattle.cpl_fixed.specs.Results.{Returns}
+use Rattle.cpl_lines.specs.declared.fault.LinesError.{LinesError}
+use Rattle.cpl_lines.specs.declared.fault.LinesError.TheVariants as lines
+use Rattle.cpl_lines.specs.Lines.{Line}
+use Rattle.cpl_lines.specs.Reading.{lines_of, made_with}
+use Rattle.cpl_lines.proofs.Turns.{IsFirst, fault_is_first, syntax_is_first, limit_is_first}
 use Rattle.cpl_gridfile.specs.declared.fault.GridError.{GridError}
 use Rattle.cpl_gridfile.specs.declared.fault.GridError.TheVariants.{Syntax, Limit, Memory}
-use Rattle.cpl_gridfile.specs.Lines.{Line, line_text}
-use Rattle.cpl_gridfile.specs.Order.{WantsHead, wanted_after}
-use Rattle.cpl_gridfile.specs.AirGrid.{air_lines, air_text, is_zero, or_contacts, rule_fault, IsWithinLimits, IsAirGrid, IsRuleFault, IsFirstFault}
-use Rattle.cpl_gridfile.specs.Reading.{lines_from, mesh_of, judged, mesh_from, air_grid_of}
-use Rattle.cpl_gridfile.proofs.Steps.{some_is}
-use Rattle.cpl_gridfile.proofs.Turns.{Tells, lines_tell, begun_in_order, lines_again, front_is_passed, syntax_is_told, limit_is_told}
-use Rattle.cpl_gridfile.proofs.MeshLines.{mesh_in_order, mesh_again}
-use Rattle.cpl_gridfile.proofs.OrderedLines.{ordered_lines}
+use Rattle.cpl_gridfile.specs.declared.next_line.NextLine.TheVariants as next
+use Rattle.cpl_gridfile.specs.GridFormat.{Parts, grid_format, no_parts}
+use Rattle.cpl_gridfile.specs.Faults.{of_lines, is_memory}
+use Rattle.cpl_gridfile.specs.Grids.{Kind, IsGrid, IsRuleFault, IsFirstFault, judged, judged_parts, parts_in, grid_in}
 
--- ---- what a spelling is read as
+-- a rule never tells a fault of lines
+abbrev pub IsRule : GridError → Type 0
+IsRule (Syntax number) = ⊥
+IsRule (Limit number) = ⊥
+IsRule fault = Unit {0}
 
--- what reading says of the bytes that spell a mesh within the limits
-pub spelling_is_judged : (mesh : Mesh) → IsWithinLimits mesh → air_grid_of (air_text mesh) ≡ judged (rule_fault mesh) mesh
-unfolding air_grid_of
-spelling_is_judged mesh within =
-    let lines : List Line = air_lines mesh in
-    let turns : ℕ = length (air_text mesh) + 1 in
-    let read : lines_from turns WantsHead 1 (air_text mesh) ≡ Ok lines = lines_again turns WantsHead 1 lines (mesh_in_order mesh within) (omega arith) in
-    ap mesh_from read ∙ ap (λ (found : Mesh). judged (rule_fault found) found) (mesh_again mesh within)
+-- what the laws of a kind rest on: the spelling of a grid within the limits tells its parts, and parts that are told are of
+-- a grid within the limits that is spelled so. Rules tell no fault of lines.
+pub record Agrees {Grid : Type 0} (kind : Kind Grid) : Type 0 where
+  pub spelled : (grid : Grid) → kind.IsWithin grid → (parts : Parts) × (parts_in kind.kind (kind.text grid) ≡ Ok parts) × (kind.of_parts parts ≡ grid)
+  pub within : (bytes : List ℕ) (parts : Parts) → parts_in kind.kind bytes ≡ Ok parts → kind.IsWithin (kind.of_parts parts)
+  pub text : (bytes : List ℕ) (parts : Parts) → parts_in kind.kind bytes ≡ Ok parts → bytes ≡ kind.text (kind.of_parts parts)
+  pub rules : (grid : Grid) (fault : GridError) → kind.broken_rule grid ≡ Some fault → IsRule fault
 
--- the spelling of an air grid is read as that grid
-pub grid_reads : (mesh : Mesh) → IsAirGrid mesh → air_grid_of (air_text mesh) ≡ Ok mesh
-grid_reads mesh is = spelling_is_judged mesh is.limits ∙ ap (λ (fault : Option GridError). judged fault mesh) is.rules
+module _ {Grid : Type 0} (kind : Kind Grid) (agrees : Agrees kind) where
+  -- what reading says of the bytes that spell a grid within the limits
+  spelling_is_judged : (grid : Grid) → kind.IsWithin grid → grid_in kind (kind.text grid) ≡ judged (kind.broken_rule grid) grid
+  spelling_is_judged grid within =
+      let parts = agrees.spelled grid within in
+      ap (judged_parts kind) parts.1 ∙ ap (λ (g : Grid). judged (kind.broken_rule g) g) parts.2
 
--- ---- what is read is a spelling
+  -- the spelling of a grid is read as that grid
+  pub grid_reads : (grid : Grid) → IsGrid kind grid → grid_in kind (kind.text grid) ≡ Ok grid
+  grid_reads grid is = spelling_is_judged grid is.limits ∙ ap (λ (fault : Option GridError). judged fault grid) is.rules
 
-record Spells (bytes : List ℕ) (lines : List Line) : Type 0 where
-  limits : IsWithinLimits (mesh_of lines)
-  text : bytes ≡ air_text (mesh_of lines)
+  -- what the rules let through, and what they refuse
+  judged_ok : (fault : Option GridError) (grid found : Grid) → judged fault grid ≡ Ok found → (fault ≡ None) × (grid ≡ found)
+  judged_ok (Some fault) grid found e = absurd cc
+  judged_ok None grid found e = (refl, cc)
 
--- the lines that were read spell a mesh within the limits
-spelt : (bytes : List ℕ) (lines : List Line) → Tells WantsHead 1 bytes (Ok lines) → Spells bytes lines
-spelt bytes lines told =
-    let begun = begun_in_order WantsHead lines bytes told.0 told.1 in
-    let ordered = ordered_lines lines begun.0 in
-    record { limits = ordered.0; text = begun.1 ∙ ap (flat_map line_text) ordered.1 }
+  judged_err : (broken : Option GridError) (grid : Grid) (fault : GridError) → judged broken grid ≡ Err fault → broken ≡ Some fault
+  judged_err (Some broken) grid fault e = cc
+  judged_err None grid fault e = absurd cc
 
--- what the rules let through, and what they refuse
-judged_ok : (fault : Option GridError) (mesh found : Mesh) → judged fault mesh ≡ Ok found → (fault ≡ None) × (mesh ≡ found)
-judged_ok (Some fault) mesh found e = absurd cc
-judged_ok None mesh found e = (refl, cc)
+  -- what is read is spelled so, and is a grid
+  found_is_grid : (bytes : List ℕ) (read : Result Parts LinesError) → parts_in kind.kind bytes ≡ read → (grid : Grid) → judged_parts kind read ≡ Ok grid
+      → IsGrid kind grid × (bytes ≡ kind.text grid)
+  found_is_grid bytes (Err fault) is grid e = absurd cc
+  found_is_grid bytes (Ok parts) is grid e =
+      let within = agrees.within bytes parts is in
+      let text = agrees.text bytes parts is in
+      let kept = judged_ok (kind.broken_rule (kind.of_parts parts)) (kind.of_parts parts) grid e in
+      subst (λ (g : Grid). IsGrid kind g × (bytes ≡ kind.text g)) kept.1 (record { limits = within; rules = kept.0 }, text)
 
-judged_err : (broken : Option GridError) (mesh : Mesh) (fault : GridError) → judged broken mesh ≡ Err fault → broken ≡ Some fault
-judged_err (Some broken) mesh fault e = cc
-judged_err None mesh fault e = absurd cc
+  pub reads_grid : (bytes : List ℕ) (grid : Grid) → grid_in kind bytes ≡ Ok grid → IsGrid kind grid × (bytes ≡ kind.text grid)
+  reads_grid bytes grid e = found_is_grid bytes (parts_in kind.kind bytes) refl grid e
 
--- what reading found, by what the lines tell
-found_spelt : (bytes : List ℕ) (read : Result (List Line) GridError) → Tells WantsHead 1 bytes read → (mesh : Mesh) → mesh_from read ≡ Ok mesh
-    → IsAirGrid mesh × (bytes ≡ air_text mesh)
-found_spelt bytes (Err fault) told mesh e = absurd cc
-found_spelt bytes (Ok lines) told mesh e =
-    let spells = spelt bytes lines told in
-    let kept = judged_ok (rule_fault (mesh_of lines)) (mesh_of lines) mesh e in
-    rw (← kept.1) (record { limits = spells.limits; rules = kept.0 }, spells.text)
+  -- ---- a fault is the first
 
--- what is read is spelled so, and is an air grid
-pub reads_grid : (bytes : List ℕ) (mesh : Mesh) → air_grid_of bytes ≡ Ok mesh → IsAirGrid mesh × (bytes ≡ air_text mesh)
-unfolding air_grid_of
-reads_grid bytes mesh e = found_spelt bytes (lines_from (length bytes + 1) WantsHead 1 bytes) (lines_tell (length bytes + 1) WantsHead 1 bytes (omega arith)) mesh e
+  rule_is_first : (bytes : List ℕ) (fault : GridError) → IsRule fault → IsRuleFault kind bytes fault → IsFirstFault kind bytes fault
+  rule_is_first bytes (Syntax number) rule is = absurd rule
+  rule_is_first bytes (Limit number) rule is = absurd rule
+  rule_is_first bytes Memory rule is = tt
+  rule_is_first bytes fault rule is = is
 
--- ---- a fault is the first
+  -- a fault of lines
+  lines_fault : (read : Result (List Line) LinesError) (fault : LinesError) → made_with (grid_format kind.kind) next.Head no_parts read ≡ Err fault → read ≡ Err fault
+  lines_fault (Ok lines) fault e = absurd cc
+  lines_fault (Err other) fault e = cc
 
--- a fault that a rule gives is a broken rule
-rule_is_first : (bytes : List ℕ) (cell : Option ℕ) (broken : Option MosaicError) (fault : GridError) → or_contacts cell broken ≡ Some fault
-    → IsRuleFault bytes fault → IsFirstFault bytes fault
-rule_is_first bytes (Some cell) broken fault e = subst (λ (f : GridError). IsRuleFault bytes f → IsFirstFault bytes f) (some_is e) (λ is. is)
-rule_is_first bytes None None fault e = absurd cc
-rule_is_first bytes None (Some mosaic.Memory) fault e = subst (λ (f : GridError). IsRuleFault bytes f → IsFirstFault bytes f) (some_is e) (λ is. tt)
-rule_is_first bytes None (Some broken) fault e = subst (λ (f : GridError). IsRuleFault bytes f → IsFirstFault bytes f) (some_is e) (λ is. is)
+  line_is_first : (bytes : List ℕ) (fault : LinesError) → IsFirst (grid_format kind.kind) next.Head bytes fault → IsFirstFault kind bytes (of_lines fault)
+  line_is_first bytes (lines.Syntax number) is = is
+  line_is_first bytes (lines.Limit number) is = is
+  line_is_first bytes lines.Memory is = tt
 
--- what reading refused, by what the lines tell
-fault_first : (bytes : List ℕ) (read : Result (List Line) GridError) → Tells WantsHead 1 bytes read → (fault : GridError) → mesh_from read ≡ Err fault
-    → IsFirstFault bytes fault
-fault_first bytes (Ok lines) told fault e =
-    let spells = spelt bytes lines told in
-    let mesh : Mesh = mesh_of lines in
-    let broken : rule_fault mesh ≡ Some fault = judged_err (rule_fault mesh) mesh fault e in
-    rule_is_first bytes (position is_zero mesh.area) (contact_fault mesh.mosaic.tiles mesh.mosaic.contacts) fault broken
-    (record { mesh = mesh; limits = spells.limits; text = spells.text; broken = broken })
-fault_first bytes (Err (Syntax at)) told fault e =
-    let same : Syntax at ≡ fault = cc in
-    subst (IsFirstFault bytes) same
-    (record { front = told.front; rest = told.rest; before = told.before; number_is = told.at_is; no_line = told.no_line; not_ended = told.not_ended })
-fault_first bytes (Err (Limit at)) told fault e =
-    let same : Limit at ≡ fault = cc in
-    subst (IsFirstFault bytes) same
-    (record {
-      front = told.front;
-      rest = told.rest;
-      before = told.before;
-      number_is = told.at_is;
-      line = told.line;
-      behind = told.behind;
-      form = told.form;
-      broken = told.broken;
-    })
-fault_first bytes (Err other) told fault e = absurd told
+  fault_from : (bytes : List ℕ) (read : Result Parts LinesError) → parts_in kind.kind bytes ≡ read → (fault : GridError) → judged_parts kind read ≡ Err fault
+      → IsFirstFault kind bytes fault
+  fault_from bytes (Ok parts) is fault e =
+      let grid : Grid = kind.of_parts parts in
+      let broken = judged_err (kind.broken_rule grid) grid fault e in
+      rule_is_first bytes fault (agrees.rules grid fault broken)
+      (record { grid = grid; limits = agrees.within bytes parts is; text = agrees.text bytes parts is; broken = broken })
+  fault_from bytes (Err lines) is fault e =
+      let same : of_lines lines ≡ fault = cc in
+      let first = fault_is_first (grid_format kind.kind) next.Head bytes lines (lines_fault (lines_of (grid_format kind.kind) next.Head bytes) lines is) in
+      subst (IsFirstFault kind bytes) same (line_is_first bytes lines first)
 
--- the fault that reading tells is the first
-pub fault_is_first : (bytes : List ℕ) (fault : GridError) → air_grid_of bytes ≡ Err fault → IsFirstFault bytes fault
-unfolding air_grid_of
-fault_is_first bytes fault e =
-    fault_first bytes (lines_from (length bytes + 1) WantsHead 1 bytes) (lines_tell (length bytes + 1) WantsHead 1 bytes (omega arith)) fault e
+  -- the fault that reading tells is the first
+  pub fault_is_told : (bytes : List ℕ) (fault : GridError) → grid_in kind bytes ≡ Err fault → IsFirstFault kind bytes fault
+  fault_is_told bytes fault e = fault_from bytes (parts_in kind.kind bytes) refl fault e
 
--- a first fault is told, so there is one at most
-pub first_fault_reads : (bytes : List ℕ) (fault : GridError) → fault ≢ Memory → IsFirstFault bytes fault → air_grid_of bytes ≡ Err fault
-unfolding air_grid_of
-first_fault_reads bytes Memory other is = absurd (other refl)
-first_fault_reads bytes (Syntax number) other is =
-    ap mesh_from (front_is_passed (length bytes + 1) WantsHead 1 is.front bytes is.rest is.before (omega arith) (Syntax number) (λ left at here.
-    syntax_is_told left (wanted_after WantsHead is.front) at is.rest is.no_line is.not_ended ∙ ap (λ (n : ℕ). Err (Syntax n)) (here ∙ sym is.number_is)))
-first_fault_reads bytes (Limit number) other is =
-    ap mesh_from (front_is_passed (length bytes + 1) WantsHead 1 is.front bytes is.rest is.before (omega arith) (Limit number) (λ left at here.
-    limit_is_told left (wanted_after WantsHead is.front) at is.rest is.line is.behind is.form is.broken ∙ ap (λ (n : ℕ). Err (Limit n)) (here ∙ sym is.number_is)))
-first_fault_reads bytes fault other is =
-    ap air_grid_of is.text ∙ spelling_is_judged is.mesh is.limits ∙ ap (λ (broken : Option GridError). judged broken is.mesh) is.broken
+  -- a first fault is told, so there is one at most
+  broken_lines : (bytes : List ℕ) (fault : LinesError) → lines_of (grid_format kind.kind) next.Head bytes ≡ Err fault → grid_in kind bytes ≡ Err (of_lines fault)
+  broken_lines bytes fault e = ap (λ (read : Result (List Line) LinesError). judged_parts kind (made_with (grid_format kind.kind) next.Head no_parts read)) e
+
+  broken_rule_is_told : (bytes : List ℕ) (fault : GridError) → IsRuleFault kind bytes fault → grid_in kind bytes ≡ Err fault
+  broken_rule_is_told bytes fault is =
+      ap (grid_in kind) is.text ∙ spelling_is_judged is.grid is.limits ∙ ap (λ (broken : Option GridError). judged broken is.grid) is.broken
+
+  pub first_is_told : (bytes : List ℕ) (fault : GridError) → fault ≢ Memory → IsFirstFault kind bytes fault → grid_in kind bytes ≡ Err fault
+  first_is_told bytes Memory other is = absurd (other refl)
+  first_is_told bytes (Syntax number) other is = broken_lines bytes (lines.Syntax number) (syntax_is_first (grid_format kind.kind) next.Head bytes number is)
+  first_is_told bytes (Limit number) other is = broken_lines bytes (lines.Limit number) (limit_is_first (grid_format kind.kind) next.Head bytes number is)
+  first_is_told bytes fault other is = broken_rule_is_told bytes fault is
+
+  -- ---- what a reader returned
+
+  -- what a reader returned of these bytes
+  abbrev pub Reads : List ℕ → Result Grid GridError → Type 0
+  Reads bytes returned = Returns is_memory returned (grid_in kind bytes)
+
+  pub returned_is_grid : (bytes : List ℕ) (returned : Result Grid GridError) → Reads bytes returned → IfOk returned (IsGrid kind)
+  returned_is_grid bytes (Ok grid) reads = (reads_grid bytes grid reads).0
+  returned_is_grid bytes (Err fault) reads = tt
+
+  pub returned_is_spelled : (bytes : List ℕ) (returned : Result Grid GridError) → Reads bytes returned → IfOk returned (λ grid. bytes ≡ kind.text grid)
+  returned_is_spelled bytes (Ok grid) reads = (reads_grid bytes grid reads).1
+  returned_is_spelled bytes (Err fault) reads = tt
+
+  pub spelled_is_returned : (bytes : List ℕ) (returned : Result Grid GridError) → Reads bytes returned → (grid : Grid) → IsGrid kind grid → bytes ≡ kind.text grid
+      → Returns is_memory returned (Ok grid)
+  spelled_is_returned bytes returned reads grid is text =
+      subst (Returns is_memory returned) (ap (grid_in kind) text ∙ grid_reads grid is) reads
+
+  pub fault_is_first_of : (bytes : List ℕ) (returned : Result Grid GridError) → Reads bytes returned → IfErr returned (IsFirstFault kind bytes)
+  fault_is_first_of bytes (Ok grid) reads = tt
+  fault_is_first_of bytes (Err Memory) reads = tt
+  fault_is_first_of bytes (Err fault) reads = fault_is_told bytes fault reads
+
+  pub first_is_returned : (bytes : List ℕ) (returned : Result Grid GridError) → Reads bytes returned → (fault : GridError) → fault ≢ Memory
+      → IsFirstFault kind bytes fault → Returns is_memory returned (Err fault)
+  first_is_returned bytes returned reads fault other is = subst (Returns is_memory returned) (first_is_told bytes fault other is) reads

@@ -1,6 +1,11 @@
-pub mod Lines
-pub mod Order
-pub mod Reading
-pub mod Found
-pub mod Stepping
+pub mod MeshFormat
+pub mod GridFormat
+pub mod Within
+pub mod Faults
+pub mod Grids
+pub mod Rules
 pub mod AirGrid
+pub mod CoupledGrid
+pub mod Reading
+pub mod Readers
+pub mod Printing

@@ -1,14 +1,17 @@
-//! The text of grids: reading it, with the exact place of the first fault.
+//! The text of grids: reading it, with the exact place of the first fault, and spelling it.
 #![tactic(auto)]
 
+mod contact;
 mod fault;
+mod item;
+mod judge;
 mod limit;
-mod line;
-mod number;
-mod place;
+mod mesh;
+mod next_line;
+mod print;
 mod read;
 mod reader;
-mod spelling;
 
 pub use fault::GridError;
-pub use read::read_air;
+pub use print::print_grid;
+pub use read::{read_air, read_grid};

@@ -1,80 +1,55 @@
 // Reading a grid.
-ghost use Rattle.std.specs.Prelude.{◌≡◌, ◌≢◌, IfOk, IfErr, Ok, Err, position};
+ghost use Rattle.std.specs.Prelude.{◌≡◌, ◌≢◌, IfOk, IfErr, Ok, Err, All};
+ghost use Rattle.cpl_fixed.specs.Flows.{IsAirArea};
+ghost use Rattle.cpl_fixed.specs.Results.{Gives, Returns};
+ghost use Rattle.cpl_lines.specs.Steps.{is_out_of_memory};
 ghost use Rattle.cpl_mosaic.specs.declared.mosaic.Mesh.{Mesh as MeshValue};
+ghost use Rattle.cpl_xgrid.specs.Grids.{IsGrid};
+ghost use Rattle.cpl_xgrid.specs.declared.grid.Grid.{Grid as GridValue};
 ghost use Rattle.cpl_gridfile.specs.declared.fault.GridError.{GridError as GridErrorValue};
 ghost use Rattle.cpl_gridfile.specs.declared.fault.GridError.TheVariants.{Memory};
-ghost use Rattle.cpl_gridfile.specs.AirGrid.{is_zero, IsAirGrid, IsFirstFault, IsWithinLimits, air_text, rule_fault, of_contacts};
-ghost use Rattle.cpl_gridfile.specs.Reading.{Gives, air_grid_of, judged};
-ghost use Rattle.cpl_gridfile.specs.Stepping.{grid_of, grid_of_lines};
+ghost use Rattle.cpl_gridfile.specs.Faults.{is_memory};
+ghost use Rattle.cpl_gridfile.specs.Grids.{IsFirstFault, parts_in};
+ghost use Rattle.cpl_gridfile.specs.AirGrid.{IsAirGrid, air_grids, air_text};
+ghost use Rattle.cpl_gridfile.specs.CoupledGrid.{IsCoupledGrid, coupled_grids, grid_text};
+ghost use Rattle.cpl_gridfile.specs.Reading.{air_grid_of, coupled_grid_of};
+ghost use Rattle.cpl_gridfile.specs.Readers.{parts_of};
 
 use crate::GridError;
+use crate::judge::{air, coupled};
+use crate::next_line::GridKind;
 use crate::reader::Reader;
-use cpl_fixed::Component;
-use cpl_mosaic::{Mesh, Mosaic, MosaicError};
-use sqlite_items::Items;
+use cpl_lines::LinesError;
+use cpl_mosaic::Mesh;
+use cpl_xgrid::Grid;
 use std::alloc::Global;
 
 // Reads all lines, in one pass.
-fn lines(alloc: Global, bytes: &[u8]) -> Result<Reader, GridError>
-    ensures read { Gives grid_of result (grid_of_lines bytes.now) }
-    ensures limits { IfOk result (λ reader. IsWithinLimits (grid_of reader)) }
+fn lines(alloc: Global, kind: GridKind, bytes: &[u8]) -> Result<Reader, LinesError>
+    ensures { Gives is_out_of_memory parts_of result (parts_in kind bytes.now) }
 {
-    let mut reader = Reader::new(alloc);
+    let mut reader = Reader::new(alloc, kind);
     let mut rest = bytes;
+    let mut number = 1u32;
     while !reader.is_done() {
         rest = match reader.line(rest) {
-            Ok(behind) => behind,
-            Err(fault) => return Err(fault.at(reader.number)),
+            Ok(rest) => rest,
+            Err(fault) => return Err(fault.at(number)),
         };
-        reader.number += 1;
+        number += 1;
     }
     if !rest.is_empty() {
-        return Err(GridError::Syntax(reader.number));
+        return Err(LinesError::Syntax(number));
     }
     Ok(reader)
 }
 
-// The fault of a grid whose contacts have this fault.
-fn contact_fault(component: Component, fault: MosaicError) -> GridError
-    ensures { result ≡ of_contacts component fault }
+// Reads all lines of an air grid, and then judges the rules.
+fn air_grid(alloc: Global, bytes: &[u8]) -> Result<Mesh, GridError>
+    ensures { Returns is_memory result (air_grid_of bytes.now) }
 {
-    match fault {
-        MosaicError::ContactRange(contact) => GridError::ContactRange(component, contact),
-        MosaicError::ContactTwice(contact) => GridError::ContactTwice(component, contact),
-        MosaicError::SelfMeet(contact) => GridError::SelfMeet(component, contact),
-        MosaicError::Memory => GridError::Memory,
-    }
-}
-
-// The least cell without area.
-fn without_area(area: &[i64]) -> Option<usize>
-    ensures { result ≡ position is_zero area.now }
-{
-    area.iter().position(|area| *area == 0)
-}
-
-// The grid that a reader has read, where it keeps the rules.
-fn air_grid(alloc: Global, reader: Reader) -> Result<Mesh, GridError>
-    requires { IsWithinLimits (grid_of reader) }
-    ensures { Gives (λ mesh. mesh) result (judged (rule_fault (grid_of reader)) (grid_of reader)) }
-{
-    if let Some(cell) = without_area(&reader.area) {
-        return Err(GridError::Area(Component::Atmos, cell as u32));
-    }
-    match Mosaic::new(alloc, &reader.tiles, &reader.contacts) {
-        Ok(mosaic) => Ok(Mesh {
-            mosaic,
-            area: Items::from_vec(reader.area),
-        }),
-        Err(fault) => Err(contact_fault(Component::Atmos, fault)),
-    }
-}
-
-// Reads all lines, and then judges the rules.
-fn read(alloc: Global, bytes: &[u8]) -> Result<Mesh, GridError>
-    ensures { Gives (λ mesh. mesh) result (air_grid_of bytes.now) }
-{
-    air_grid(alloc, lines(alloc, bytes)?)
+    let reader = lines(alloc, GridKind::Air, bytes)?;
+    air(alloc, reader.air)
 }
 
 /// The air grid that bytes spell, or their first fault. The format is defined by this project: one grid has one spelling.
@@ -89,15 +64,52 @@ pub fn read_air(alloc: Global, bytes: &[u8]) -> Result<Mesh, GridError>
     // What is read is spelled so, and keeps the rules.
     ensures found { IfOk result IsAirGrid }
     ensures spelled { IfOk result (λ mesh. bytes.now ≡ air_text mesh) }
+    ensures areas { IfOk result (λ mesh. All IsAirArea mesh.area) }
     // What is spelled so is read, unless memory ran out.
     ensures only { (mesh : MeshValue) → IsAirGrid mesh → bytes.now ≡ air_text mesh
-        → Gives (λ mesh. mesh) result (Ok mesh) }
+        → Returns is_memory result (Ok mesh) }
     // Which fault it is.
-    ensures fault { IfErr result (IsFirstFault bytes.now) }
+    ensures fault { IfErr result (IsFirstFault air_grids bytes.now) }
     // Each first fault is told, unless memory ran out, so there is one at most.
-    ensures told { (fault : GridErrorValue) → fault ≢ Memory → IsFirstFault bytes.now fault
-        → Gives {X = MeshValue} (λ mesh. mesh) result (Err fault) }
-    ensures exact { Gives (λ mesh. mesh) result (air_grid_of bytes.now) }
+    ensures told { (fault : GridErrorValue) → fault ≢ Memory → IsFirstFault air_grids bytes.now fault
+        → Returns is_memory result (Err fault) }
+    ensures exact { Returns is_memory result (air_grid_of bytes.now) }
 {
-    read(alloc, bytes)
+    air_grid(alloc, bytes)
+}
+
+// Reads all lines of a coupled grid, and then judges the rules.
+fn coupled_grid(alloc: Global, bytes: &[u8]) -> Result<Grid, GridError>
+    ensures { Returns is_memory result (coupled_grid_of bytes.now) }
+{
+    let reader = lines(alloc, GridKind::Coupled, bytes)?;
+    coupled(alloc, reader)
+}
+
+/// The coupled grid that bytes spell, or their first fault. The format is defined by this project: one grid has one spelling.
+///
+/// Its lines are, in this order: `grid 1 coupled`; the meshes of the air, the land and the ocean, each as in an air grid with
+/// its own word, `mosaic atmos T`, `mosaic land T` and `mosaic ocean T`; `column LAYERS CATEGORIES`; `xgrid land N` with N
+/// lines `x TA IA JA TL IL JL AREA`; `xgrid ocean N` with N lines `x TA IA JA TO IO JO AREA`; `outlets N` with N lines
+/// `o TL IL JL TO IO JO WEIGHT`; `end`. A count in the text reserves no memory.
+///
+/// `Syntax` and `Limit` name the first line at fault, where a line's form comes before its limits. Then the rules are judged:
+/// `Area`; `ContactRange`, `ContactTwice` and `SelfMeet` of the air's mosaic, then of the land's, then of the ocean's; and those
+/// of the exchange grid, from `BadIndex` to `NoOutlet`.
+pub fn read_grid(alloc: Global, bytes: &[u8]) -> Result<Grid, GridError>
+    // What is read is spelled so, and keeps the rules.
+    ensures found { IfOk result IsCoupledGrid }
+    ensures spelled { IfOk result (λ grid. bytes.now ≡ grid_text grid) }
+    ensures grid { IfOk result IsGrid }
+    // What is spelled so is read, unless memory ran out.
+    ensures only { (grid : GridValue) → IsCoupledGrid grid → bytes.now ≡ grid_text grid
+        → Returns is_memory result (Ok grid) }
+    // Which fault it is.
+    ensures fault { IfErr result (IsFirstFault coupled_grids bytes.now) }
+    // Each first fault is told, unless memory ran out, so there is one at most.
+    ensures told { (fault : GridErrorValue) → fault ≢ Memory → IsFirstFault coupled_grids bytes.now fault
+        → Returns is_memory result (Err fault) }
+    ensures exact { Returns is_memory result (coupled_grid_of bytes.now) }
+{
+    coupled_grid(alloc, bytes)
 }

@@ -1,183 +1,198 @@
 // Reading a grid line by line.
 ghost use Rattle.std.specs.Prelude.{◌≡◌, true, IsTrue, ◌↔◌};
-ghost use Rattle.cpl_gridfile.specs.Order.{WantsHead, WantsMosaic, WantsTile, WantsArea, WantsContacts, WantsContact, WantsEnd, WantsNothing};
-ghost use Rattle.cpl_gridfile.specs.Reading.{fields_at};
-ghost use Rattle.cpl_gridfile.specs.Found.{wanted};
-ghost use Rattle.cpl_gridfile.specs.Stepping.{Steps, stepped, step_of, areas_added, grid_of, no_grid};
+ghost use Rattle.cpl_fixed.specs.Results.{Gives};
+ghost use Rattle.cpl_lines.specs.Steps.{is_memory, step_of};
+ghost use Rattle.cpl_gridfile.specs.declared.next_line.NextLine.TheVariants as NextLine;
+ghost use Rattle.cpl_gridfile.specs.GridFormat.{grid_format, no_parts};
+ghost use Rattle.cpl_gridfile.specs.Readers.{mesh_step, stepped, parts_of};
 
-use crate::fault::LineFault;
-use crate::number::field;
-use crate::place::Place;
-use crate::{limit, line};
-use cpl_mosaic::{Contact, Tile};
+use crate::item::item_line;
+use crate::limit;
+use crate::mesh::MeshParts;
+use crate::next_line::{GridKind, GridList, GridMesh, MeshLine, NextLine};
+use cpl_lines::{LineFault, number_line, pair_line, word_line};
+use cpl_xgrid::{Column, Outlet, XRow};
 use std::alloc::Global;
 
 /// A grid as far as it is read.
 #[derive(Drop)]
 pub(crate) struct Reader {
+    pub kind: GridKind,
     /// Which line comes next.
-    pub place: Place,
-    /// The number of that line.
-    pub number: u32,
-    pub tiles: Vec<Tile>,
-    pub area: Vec<i64>,
-    pub contacts: Vec<Contact>,
-}
-
-// Puts areas at the end, each cut to the limit, and tells whether all keep it: their line's form comes first.
-fn areas<'a>(
-    bytes: &'a [u8],
-    count: u32,
-    area: &mut Vec<i64>,
-) -> Result<(bool, &'a [u8]), LineFault>
-    ensures { Steps (λ found. (found.0, found.1.now, area.new.items)) result
-        (areas_added true area.old.items (fields_at count bytes.now)) }
-{
-    let mut lawful = true;
-    let mut rest = bytes;
-    for _ in 0..count {
-        let Some((number, behind)) = field(rest) else {
-            return Err(LineFault::Form);
-        };
-        lawful = lawful && limit::is_area(number);
-        area.push(number.min(limit::MOST_AREA) as i64)?;
-        rest = behind;
-    }
-    Ok((lawful, rest))
+    pub next: NextLine,
+    pub air: MeshParts,
+    pub land: MeshParts,
+    pub ocean: MeshParts,
+    pub column: Column,
+    pub land_rows: Vec<XRow>,
+    pub ocean_rows: Vec<XRow>,
+    pub outlets: Vec<Outlet>,
 }
 
 impl Reader {
-    /// A reader of which nothing is read yet.
-    pub(crate) fn new(alloc: Global) -> Reader
-        ensures place { wanted result.place ≡ WantsHead }
-        ensures number { result.number ≡ 1 }
-        ensures grid { grid_of result ≡ no_grid }
+    /// A reader of a grid of this kind, of which nothing is read yet.
+    pub(crate) fn new(alloc: Global, kind: GridKind) -> Reader
+        ensures kind { result.kind ≡ kind }
+        ensures next { result.next ≡ NextLine.Head }
+        ensures parts { parts_of result ≡ no_parts }
     {
         Reader {
-            place: Place::Head,
-            number: 1,
-            tiles: Vec::new(alloc),
-            area: Vec::new(alloc),
-            contacts: Vec::new(alloc),
+            kind,
+            next: NextLine::Head,
+            air: MeshParts::new(alloc),
+            land: MeshParts::new(alloc),
+            ocean: MeshParts::new(alloc),
+            column: Column {
+                layers: 0,
+                categories: 0,
+            },
+            land_rows: Vec::new(alloc),
+            ocean_rows: Vec::new(alloc),
+            outlets: Vec::new(alloc),
         }
     }
 
     fn head<'a>(&mut self, bytes: &'a [u8]) -> Result<&'a [u8], LineFault>
-        ensures number { self.new.number ≡ self.old.number }
-        ensures step { Steps (λ rest. stepped self.new rest.now) result
-            (step_of WantsHead (grid_of self.old) bytes.now) }
+        ensures kind { self.new.kind ≡ self.old.kind }
+        ensures step { Gives is_memory (λ rest. stepped self.new rest.now) result
+            (step_of (grid_format self.old.kind) NextLine.Head (parts_of self.old) bytes.now) }
     {
-        let rest = line::word(bytes, b"grid 1 air\n").ok_or(LineFault::Form)?;
-        self.place = Place::Mosaic;
+        let rest = word_line(bytes, self.kind.word()).ok_or(LineFault::Form)?;
+        self.next = NextLine::Mesh {
+            mesh: GridMesh::Atmos,
+            line: MeshLine::Mosaic,
+        };
         Ok(rest)
     }
 
-    fn mosaic<'a>(&mut self, bytes: &'a [u8]) -> Result<&'a [u8], LineFault>
-        ensures number { self.new.number ≡ self.old.number }
-        ensures step { Steps (λ rest. stepped self.new rest.now) result
-            (step_of WantsMosaic (grid_of self.old) bytes.now) }
-    {
-        let (count, rest) = line::counted(bytes, b"mosaic atmos").ok_or(LineFault::Form)?;
-        let count = limit::tile_count(count).ok_or(LineFault::Limit)?;
-        self.place = Place::tiles(count, 0);
-        Ok(rest)
-    }
-
-    fn tile<'a>(&mut self, bytes: &'a [u8], more: u32, cells: u32) -> Result<&'a [u8], LineFault>
-        ensures number { self.new.number ≡ self.old.number }
-        ensures step { Steps (λ rest. stepped self.new rest.now) result
-            (step_of (WantsTile more cells) (grid_of self.old) bytes.now) }
-    {
-        let ((nx, ny), rest) = line::tile_line(bytes).ok_or(LineFault::Form)?;
-        let (tile, cells) = limit::tile(nx, ny, cells).ok_or(LineFault::Limit)?;
-        self.tiles.push(tile)?;
-        self.place = Place::rows(tile.nx, tile.ny, more, cells);
-        Ok(rest)
-    }
-
-    #[tactic(auto, unfolding(crate::specs::Reading::area_line_at))]
-    fn row<'a>(
+    // Reads a line of a mesh, and answers which line of the mesh comes after it, and the rest.
+    fn mesh_line<'a>(
         &mut self,
+        mesh: GridMesh,
+        line: MeshLine,
         bytes: &'a [u8],
-        nx: u32,
-        rows: u32,
-        more: u32,
-        cells: u32,
-    ) -> Result<&'a [u8], LineFault>
-        ensures number { self.new.number ≡ self.old.number }
-        ensures step { Steps (λ rest. stepped self.new rest.now) result
-            (step_of (WantsArea nx rows more cells) (grid_of self.old) bytes.now) }
+    ) -> Result<(Option<MeshLine>, &'a [u8]), LineFault>
+        ensures kind { self.new.kind ≡ self.old.kind }
+        ensures step { Gives is_memory (λ found. (found.0, parts_of self.new, found.1.now)) result
+            (mesh_step mesh line (parts_of self.old) bytes.now) }
     {
-        let fields = line::word(bytes, b"area").ok_or(LineFault::Form)?;
-        let (lawful, rest) = areas(fields, nx, &mut self.area)?;
-        let rest = line::line_end(rest).ok_or(LineFault::Form)?;
-        if !lawful {
-            return Err(LineFault::Limit);
+        match mesh {
+            GridMesh::Atmos => self.air.line(mesh, line, bytes),
+            GridMesh::Land => self.land.line(mesh, line, bytes),
+            GridMesh::Ocean => self.ocean.line(mesh, line, bytes),
         }
-        self.place = Place::rows(nx, rows, more, cells);
+    }
+
+    fn mesh<'a>(
+        &mut self,
+        mesh: GridMesh,
+        line: MeshLine,
+        bytes: &'a [u8],
+    ) -> Result<&'a [u8], LineFault>
+        ensures kind { self.new.kind ≡ self.old.kind }
+        ensures step { Gives is_memory (λ rest. stepped self.new rest.now) result
+            (step_of (grid_format self.old.kind) (NextLine.Mesh mesh line) (parts_of self.old) bytes.now) }
+    {
+        let (line, rest) = self.mesh_line(mesh, line, bytes)?;
+        self.next = NextLine::of_mesh(self.kind, mesh, line);
         Ok(rest)
     }
 
-    fn contacts<'a>(&mut self, bytes: &'a [u8]) -> Result<&'a [u8], LineFault>
-        ensures number { self.new.number ≡ self.old.number }
-        ensures step { Steps (λ rest. stepped self.new rest.now) result
-            (step_of WantsContacts (grid_of self.old) bytes.now) }
+    fn column<'a>(&mut self, bytes: &'a [u8]) -> Result<&'a [u8], LineFault>
+        ensures kind { self.new.kind ≡ self.old.kind }
+        ensures step { Gives is_memory (λ rest. stepped self.new rest.now) result
+            (step_of (grid_format self.old.kind) NextLine.Column (parts_of self.old) bytes.now) }
     {
-        let (count, rest) = line::counted(bytes, b"contacts").ok_or(LineFault::Form)?;
-        let count = limit::contact_count(count).ok_or(LineFault::Limit)?;
-        self.place = Place::contacts(count);
+        let ((layers, categories), rest) = pair_line(bytes, b"column").ok_or(LineFault::Form)?;
+        self.column = limit::column(layers, categories).ok_or(LineFault::Limit)?;
+        self.next = NextLine::Count {
+            list: GridList::Land,
+            before: 0,
+        };
         Ok(rest)
     }
 
-    fn contact<'a>(&mut self, bytes: &'a [u8], more: u32) -> Result<&'a [u8], LineFault>
-        ensures number { self.new.number ≡ self.old.number }
-        ensures step { Steps (λ rest. stepped self.new rest.now) result
-            (step_of (WantsContact more) (grid_of self.old) bytes.now) }
+    fn count<'a>(
+        &mut self,
+        list: GridList,
+        before: u32,
+        bytes: &'a [u8],
+    ) -> Result<&'a [u8], LineFault>
+        ensures kind { self.new.kind ≡ self.old.kind }
+        ensures step { Gives is_memory (λ rest. stepped self.new rest.now) result
+            (step_of (grid_format self.old.kind) (NextLine.Count list before) (parts_of self.old) bytes.now) }
     {
-        let (numbers, rest) = line::contact_line(bytes).ok_or(LineFault::Form)?;
-        let contact = limit::contact(numbers).ok_or(LineFault::Limit)?;
-        self.contacts.push(contact)?;
-        self.place = Place::contacts(more);
+        let (count, rest) = number_line(bytes, list.word()).ok_or(LineFault::Form)?;
+        let (count, total) = limit::item_count(list, before, count).ok_or(LineFault::Limit)?;
+        self.next = NextLine::items(list, total, count);
+        Ok(rest)
+    }
+
+    fn item<'a>(
+        &mut self,
+        list: GridList,
+        total: u32,
+        more: u32,
+        bytes: &'a [u8],
+    ) -> Result<&'a [u8], LineFault>
+        ensures kind { self.new.kind ≡ self.old.kind }
+        ensures step { Gives is_memory (λ rest. stepped self.new rest.now) result
+            (step_of (grid_format self.old.kind) (NextLine.Item list total more) (parts_of self.old) bytes.now) }
+    {
+        let (numbers, rest) = item_line(bytes, list.item_word()).ok_or(LineFault::Form)?;
+        let item = limit::item(list, numbers).ok_or(LineFault::Limit)?;
+        match list {
+            GridList::Land => self.land_rows.push(XRow {
+                air: item.from,
+                other: item.to,
+                area: item.amount,
+            })?,
+            GridList::Ocean => self.ocean_rows.push(XRow {
+                air: item.from,
+                other: item.to,
+                area: item.amount,
+            })?,
+            GridList::Outlets => self.outlets.push(Outlet {
+                land: item.from,
+                ocean: item.to,
+                weight: item.amount,
+            })?,
+        }
+        self.next = NextLine::items(list, total, more);
         Ok(rest)
     }
 
     fn end<'a>(&mut self, bytes: &'a [u8]) -> Result<&'a [u8], LineFault>
-        ensures number { self.new.number ≡ self.old.number }
-        ensures step { Steps (λ rest. stepped self.new rest.now) result
-            (step_of WantsEnd (grid_of self.old) bytes.now) }
+        ensures kind { self.new.kind ≡ self.old.kind }
+        ensures step { Gives is_memory (λ rest. stepped self.new rest.now) result
+            (step_of (grid_format self.old.kind) NextLine.End (parts_of self.old) bytes.now) }
     {
-        let rest = line::word(bytes, b"end\n").ok_or(LineFault::Form)?;
-        self.place = Place::Nothing;
+        let rest = word_line(bytes, b"end").ok_or(LineFault::Form)?;
+        self.next = NextLine::Nothing;
         Ok(rest)
     }
 
-    /// Reads the line that comes next, and answers what stands behind it.
+    /// Reads the line that comes next, and answers the rest after it.
     pub(crate) fn line<'a>(&mut self, bytes: &'a [u8]) -> Result<&'a [u8], LineFault>
-        ensures number { self.new.number ≡ self.old.number }
-        ensures step { Steps (λ rest. stepped self.new rest.now) result
-            (step_of (wanted self.old.place) (grid_of self.old) bytes.now) }
+        ensures kind { self.new.kind ≡ self.old.kind }
+        ensures step { Gives is_memory (λ rest. stepped self.new rest.now) result
+            (step_of (grid_format self.old.kind) self.old.next (parts_of self.old) bytes.now) }
     {
-        match self.place {
-            Place::Head => self.head(bytes),
-            Place::Mosaic => self.mosaic(bytes),
-            Place::Tile { more, cells } => self.tile(bytes, more, cells),
-            Place::Area {
-                nx,
-                rows,
-                more,
-                cells,
-            } => self.row(bytes, nx, rows, more, cells),
-            Place::Contacts => self.contacts(bytes),
-            Place::Contact { more } => self.contact(bytes, more),
-            Place::End => self.end(bytes),
-            Place::Nothing => Err(LineFault::Form),
+        match self.next {
+            NextLine::Head => self.head(bytes),
+            NextLine::Mesh { mesh, line } => self.mesh(mesh, line, bytes),
+            NextLine::Column => self.column(bytes),
+            NextLine::Count { list, before } => self.count(list, before, bytes),
+            NextLine::Item { list, total, more } => self.item(list, total, more, bytes),
+            NextLine::End => self.end(bytes),
+            NextLine::Nothing => Err(LineFault::Form),
         }
     }
 
     /// Whether all lines are read.
     pub(crate) fn is_done(&self) -> bool
-        ensures { IsTrue result ↔ (wanted self.now.place ≡ WantsNothing) }
+        ensures { IsTrue result ↔ (self.now.next ≡ NextLine.Nothing) }
     {
-        matches!(self.place, Place::Nothing)
+        matches!(self.next, NextLine::Nothing)
     }
 }

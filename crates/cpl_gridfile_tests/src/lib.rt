@@ -1,5 +1,7 @@
-//! Worked cases of grid texts: what is read, and the exact place of the first fault.
+//! Worked cases of grid texts: what is read and printed, and the exact place of the first fault.
 #![tactic(auto)]
 
 #[cfg(test)]
-mod tests;
+mod faults;
+#[cfg(test)]
+mod grids;

@@ -1,11 +1,10 @@
 use Rattle.std.proofs.Common.{length}
-use Rattle.cpl_gridfile.specs.Found.{wanted}
-use Rattle.cpl_gridfile.specs.Stepping.{grid_of}
-use Rattle.cpl_gridfile.proofs.SoFar.{SoFar}
+use Rattle.cpl_gridfile.specs.Readers.{parts_of}
+use Rattle.cpl_gridfile.proofs.Turns.{Far}
 use Rattle.cpl_gridfile.proofs.read.lines.Given as goal
 
 abbrev pub invariant-loop-reader : goal.invariant-loop-reader
-invariant-loop-reader l = SoFar l.bytes l.rest (wanted l.reader.place) l.reader.number (grid_of l.reader)
+invariant-loop-reader l = Far l.fn.kind l.reader.kind l.bytes l.reader.next (parts_of l.reader) l.number l.rest
 
 abbrev pub decreases-loop-reader : goal.decreases-loop-reader
 decreases-loop-reader l = length l.rest
