@@ -1,20 +1,23 @@
--- No fault behind the order of tokens is `Syntax`.
+-- No fault after the order of tokens is `Syntax`.
 use Rattle.std.proofs.Common.{ℕ, List, [], ◌∷◌, Bool, true, false, cond, Option, Some, None, Result, Ok, Err, get_or, drop}
 use Rattle.std.specs.Prelude.{nat_le}
+use Rattle.cpl_fixed.specs.Results.{◌>>=◌}
 use Rattle.cpl_namelist.specs.declared.fault.NamesError.{NamesError}
 use Rattle.cpl_namelist.specs.declared.fault.NamesError.TheVariants as fault
 use Rattle.cpl_namelist.specs.declared.fault.StepFault.{StepFault}
 use Rattle.cpl_namelist.specs.declared.fault.StepFault.TheVariants as step
 use Rattle.cpl_namelist.specs.declared.fault.Required.{Required}
+use Rattle.cpl_namelist.specs.declared.group.Group.{Group}
 use Rattle.cpl_namelist.specs.declared.names.Names.{Names}
-use Rattle.cpl_namelist.specs.declared.names.Steps.{Steps}
-use Rattle.cpl_namelist.specs.declared.table.TheConstants as table
+use Rattle.cpl_namelist.specs.declared.names.StepCounts.{StepCounts}
+use Rattle.cpl_namelist.specs.declared.places.TheConstants as places
 use Rattle.cpl_namelist.specs.declared.token.Kind.{Kind}
 use Rattle.cpl_namelist.specs.declared.token.Kind.TheVariants as kind
 use Rattle.cpl_namelist.specs.Tokens.{Lexeme, tokens}
-use Rattle.cpl_namelist.specs.Table.{group_named, name_in_group, row_at}
+use Rattle.cpl_namelist.specs.Groups.{group_named, group_place}
+use Rattle.cpl_namelist.specs.Table.{name_in_group, row_at}
 use Rattle.cpl_namelist.specs.Numbers.{fitting}
-use Rattle.cpl_namelist.specs.Settings.{◌>>=◌, Choices, is_given, number, opened_named, set_to, assigned, kind_judged, token_judged, judged}
+use Rattle.cpl_namelist.specs.Settings.{Choices, is_given, number, opened_named, set_to, assigned, kind_judged, token_judged, judged}
 use Rattle.cpl_namelist.specs.Names.{divided, need, at_most, steps_of, run_length, missing, unless_missing, names_with, names_of}
 use Rattle.cpl_namelist.specs.Grammar.{IsNamelist, kinds_of, HasOrder}
 use Rattle.cpl_namelist.proofs.Wholes.{steps_chosen}
@@ -35,9 +38,9 @@ calm_cond : {A : Type 0} (b : Bool) (x y : Result A NamesError) → Calm x → C
 calm_cond true x y here there = here
 calm_cond false x y here there = there
 
-opened_calm : (chosen : Choices) (line : ℕ) (group : Option ℕ) → Calm (opened_named chosen line group)
+opened_calm : (chosen : Choices) (line : ℕ) (group : Option Group) → Calm (opened_named chosen line group)
 opened_calm chosen line None = tt
-opened_calm chosen line (Some group) = calm_cond (get_or chosen.groups group false) (Err (fault.Twice line)) _ tt tt
+opened_calm chosen line (Some group) = calm_cond (get_or chosen.groups (group_place group) false) (Err (fault.Twice line)) _ tt tt
 
 set_calm : (chosen : Choices) (line place : ℕ) (o : Option (List ℕ)) → Calm (set_to chosen line place o)
 set_calm chosen line place None = tt
@@ -70,7 +73,7 @@ missing_calm : (m : Option Required) (names : Result Names NamesError) → Calm 
 missing_calm None names calm = calm
 missing_calm (Some required) names calm = tt
 
-three_calm : (a b c : Result ℕ NamesError) (f : ℕ → ℕ → ℕ → Result Steps NamesError) → Calm a → Calm b → Calm c → ((x y z : ℕ) → Calm (f x y z)) → Calm (a >>= λ x. b >>= λ y. c >>= λ z. f x y z)
+three_calm : (a b c : Result ℕ NamesError) (f : ℕ → ℕ → ℕ → Result StepCounts NamesError) → Calm a → Calm b → Calm c → ((x y z : ℕ) → Calm (f x y z)) → Calm (a >>= λ x. b >>= λ y. c >>= λ z. f x y z)
 three_calm (Ok x) (Ok y) (Ok z) f p q r h = h x y z
 three_calm (Ok x) (Ok y) (Err e) f p q r h = r
 three_calm (Ok x) (Err e) c f p q r h = q
@@ -84,7 +87,7 @@ steps_calm atmos cpld ocean run =
     (λ f o c. three_calm (at_most step.FastCount 1000 f) (at_most step.OceanCount 100 o) (at_most step.Count 10000 c) (λ x y z. Ok (record { fast = x; ocean = y; count = z }))
     (most_calm step.FastCount 1000 f) (most_calm step.OceanCount 100 o) (most_calm step.Count 10000 c) (λ x y z. tt))
 
-with_calm : (chosen : Choices) (steps : Result Steps NamesError) → Calm steps → Calm (steps >>= λ steps. Ok (names_with chosen steps))
+with_calm : (chosen : Choices) (steps : Result StepCounts NamesError) → Calm steps → Calm (steps >>= λ steps. Ok (names_with chosen steps))
 with_calm chosen (Ok s) calm = tt
 with_calm chosen (Err e) calm = calm
 
@@ -92,7 +95,7 @@ pub names_calm : (chosen : Choices) → Calm (names_of chosen)
 unfolding names_of
 names_calm chosen =
     missing_calm (missing chosen) (steps_chosen chosen >>= λ steps. Ok (names_with chosen steps))
-    (with_calm chosen (steps_chosen chosen) (steps_calm (number chosen table.DT_ATMOS 0) (number chosen table.DT_CPLD 0) (number chosen table.DT_OCEAN 0) (run_length chosen)))
+    (with_calm chosen (steps_chosen chosen) (steps_calm (number chosen places.DT_ATMOS 0) (number chosen places.DT_CPLD 0) (number chosen places.DT_OCEAN 0) (run_length chosen)))
 
 -- any other answer stands where the tokens are a namelist
 pub has_order : (bytes : List ℕ) (r : Result Names NamesError) → Calm r → IsNamelist (kinds_of (tokens bytes)) → HasOrder bytes r

@@ -3,16 +3,18 @@ use Rattle.std.proofs.Common.{◌≡◌, ℕ, zero, suc, ◌<◌, ◌⊎◌, inl
 use Rattle.std.specs.Prelude.{◌&&◌, ◌||◌, nat_le, ◌==◌, unwrap_or, is_some, replicate}
 use Rattle.std.specs.List.{AllByRecursion, list_all}
 use Rattle.std.proofs.lemmas.Bool.{leb-true, eqb-true}
+use Rattle.cpl_fixed.specs.Results.{◌>>=◌}
 use Rattle.cpl_namelist.specs.declared.fault.NamesError.{NamesError}
 use Rattle.cpl_namelist.specs.declared.fault.NamesError.TheVariants as fault
 use Rattle.cpl_namelist.specs.declared.token.Kind.{Kind}
 use Rattle.cpl_namelist.specs.declared.token.Kind.TheVariants as kind
+use Rattle.cpl_namelist.specs.declared.group.Group.{Group}
 use Rattle.cpl_namelist.specs.declared.table.Row.{Row}
-use Rattle.cpl_namelist.specs.declared.table.TheConstants.{TABLE}
 use Rattle.cpl_namelist.specs.Tokens.{Lexeme}
-use Rattle.cpl_namelist.specs.Table.{group_named, name_in_group, row_at, no_row}
+use Rattle.cpl_namelist.specs.Groups.{group_named, group_place}
+use Rattle.cpl_namelist.specs.Table.{format, name_in_group, row_at, no_row}
 use Rattle.cpl_namelist.specs.Numbers.{suits_held, fitting}
-use Rattle.cpl_namelist.specs.Settings.{◌>>=◌, Choices, nothing, given_at, is_given, opened_named, set_to, assigned, kind_judged, token_judged, judged, number}
+use Rattle.cpl_namelist.specs.Settings.{Choices, nothing, given_at, is_given, opened_named, set_to, assigned, kind_judged, token_judged, judged, number}
 use Rattle.cpl_namelist.specs.Ranges.{IsFrom}
 use Rattle.cpl_namelist.proofs.Given.{both, Fit, fitting_fits}
 
@@ -35,14 +37,14 @@ same_given : (a b : Choices) → a.given ≡ b.given → Fine a → Fine b
 unfolding Fine
 same_given a b e fine place ns h = fine place ns (ap (λ (given : List (Option (List ℕ))). get_or given place None) e ∙ h)
 
-opened_fine : (chosen next : Choices) (line group : ℕ) (test : Bool) → Fine chosen
-    → cond test (Err (fault.Twice line)) (Ok (record { group = group; groups = set chosen.groups group true; given = chosen.given })) ≡ Ok next → Fine next
+opened_fine : (chosen next : Choices) (line : ℕ) (group : Group) (test : Bool) → Fine chosen
+    → cond test (Err (fault.Twice line)) (Ok (record { group = group; groups = set chosen.groups (group_place group) true; given = chosen.given })) ≡ Ok next → Fine next
 opened_fine chosen next line group true fine e = absurd cc
 opened_fine chosen next line group false fine e = let g : chosen.given ≡ next.given = cc in same_given chosen next g fine
 
-opened_named_fine : (chosen next : Choices) (line : ℕ) (group : Option ℕ) → Fine chosen → opened_named chosen line group ≡ Ok next → Fine next
+opened_named_fine : (chosen next : Choices) (line : ℕ) (group : Option Group) → Fine chosen → opened_named chosen line group ≡ Ok next → Fine next
 opened_named_fine chosen next line None fine e = absurd cc
-opened_named_fine chosen next line (Some group) fine e = opened_fine chosen next line group (get_or chosen.groups group false) fine e
+opened_named_fine chosen next line (Some group) fine e = opened_fine chosen next line group (get_or chosen.groups (group_place group) false) fine e
 
 set_fine : (chosen next : Choices) (line place : ℕ) (o : Option (List ℕ)) → Fine chosen → ((ns : List ℕ) → o ≡ Some ns → Fit (row_at place) ns) → set_to chosen line place o ≡ Ok next → Fine next
 unfolding Fine
@@ -111,7 +113,7 @@ defaults_at (row ∷ rows) (suc place) e = defaults_at rows place (both (default
 
 default_fine : (place : ℕ) → default_in (row_at place) (row_at place).default ≡ true
 unfolding row_at
-default_fine place = defaults_at (map (λ named. named.1) TABLE) place refl
+default_fine place = defaults_at (map (λ entry. entry.row) format) place refl
 
 all_inside : (row : Row) (ns : List ℕ) → list_all (inside_row row) ns ≡ true → AllByRecursion (IsFrom row.low row.high) ns
 all_inside row [] e = tt

@@ -1,4 +1,4 @@
--- The numbers so far, and those behind.
+-- The numbers so far, and those after them.
 use Rattle.std.proofs.Common.{◌≡◌, ℕ, List, [], ◌∷◌, Option, Some, None, refl, sym, ap, ◌∙◌}
 use Rattle.std.proofs.lemmas.List.{append-nil}
 use Rattle.cpl_namelist.specs.declared.table.Row.{Row}

@@ -1,4 +1,4 @@
--- Tokens behind what separates them.
+-- Tokens after what separates them.
 use Rattle.std.proofs.Common.{◌≡◌, ℕ, zero, suc, ◌+◌, ◌-◌, List, [], ◌∷◌, length, take, drop, Bool, true, false, cond, eqb, Option, Some, None, ◌<◌, refl, sym, ap, ◌∙◌, arith}
 use Rattle.std.specs.Prelude.{◌||◌, option_map}
 use Rattle.cpl_namelist.specs.declared.token.Cursor.{Cursor}

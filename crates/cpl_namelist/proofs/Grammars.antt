@@ -2,50 +2,50 @@
 use Rattle.std.proofs.Common.{◌≡◌, ◌⊎◌, inl, inr, ℕ, List, [], ◌∷◌, ◌++◌, Bool, true, false, Option, Some, None, refl, ap, subst, ◌∙◌}
 use Rattle.cpl_namelist.specs.declared.token.Kind.{Kind}
 use Rattle.cpl_namelist.specs.declared.token.Kind.TheVariants as kind
-use Rattle.cpl_namelist.specs.declared.syntax.Place.{Place}
-use Rattle.cpl_namelist.specs.declared.syntax.Place.TheVariants.{Outside, Inside, Named, Assigned, Valued, Separated}
+use Rattle.cpl_namelist.specs.declared.syntax.State.{State}
+use Rattle.cpl_namelist.specs.declared.syntax.State.TheVariants.{Outside, Inside, Named, Assigned, Valued, Separated}
 use Rattle.cpl_namelist.specs.Tokens.{Lexeme, tokens, last_line}
-use Rattle.cpl_namelist.specs.Syntax.{follow, end_fault, fault_behind, syntax_fault}
+use Rattle.cpl_namelist.specs.Syntax.{follow, end_fault, fault_after, syntax_fault}
 use Rattle.cpl_namelist.specs.Grammar.{Literal, integer, repeat, text, logical, Value, Assignment, literal_kind, comma_then, value_then, values_then, assignments_then, spelling, IsNamelist, BeginsOne, kinds_of, StopsAt, EndsEarly}
 
 -- ---- going on from place to place
 
-abbrev onward : Option Place → (Place → Option Place) → Option Place
+abbrev onward : Option State → (State → Option State) → Option State
 onward None next = None
 onward (Some place) next = next place
 
-abbrev run : Place → List Kind → Option Place
+abbrev run : State → List Kind → Option State
 run place [] = Some place
 run place (k ∷ kinds) = onward (follow place k) (λ next. run next kinds)
 
-through : (o : Option Place) (front behind : List Kind) → ((next : Place) → run next (front ++ behind) ≡ onward (run next front) (λ next. run next behind))
-    → onward o (λ next. run next (front ++ behind)) ≡ onward (onward o (λ next. run next front)) (λ next. run next behind)
-through None front behind h = refl
-through (Some next) front behind h = h next
+through : (o : Option State) (front tail : List Kind) → ((next : State) → run next (front ++ tail) ≡ onward (run next front) (λ next. run next tail))
+    → onward o (λ next. run next (front ++ tail)) ≡ onward (onward o (λ next. run next front)) (λ next. run next tail)
+through None front tail h = refl
+through (Some next) front tail h = h next
 
-run_append : (place : Place) (front behind : List Kind) → run place (front ++ behind) ≡ onward (run place front) (λ next. run next behind)
-run_append place [] behind = refl
-run_append place (k ∷ front) behind = through (follow place k) front behind (λ next. run_append next front behind)
+run_append : (place : State) (front tail : List Kind) → run place (front ++ tail) ≡ onward (run place front) (λ next. run next tail)
+run_append place [] tail = refl
+run_append place (k ∷ front) tail = through (follow place k) front tail (λ next. run_append next front tail)
 
 -- ---- what is spelled leads outside
 
-abbrev AfterValue : Place → Type 0
+abbrev AfterValue : State → Type 0
 AfterValue Valued = Unit {0}
 AfterValue Separated = Unit {0}
 AfterValue _ = ⊥
 
-abbrev InGroup : Place → Type 0
+abbrev InGroup : State → Type 0
 InGroup Inside = Unit {0}
 InGroup Valued = Unit {0}
 InGroup Separated = Unit {0}
 InGroup _ = ⊥
 
-after : (place : Place) → AfterValue place → InGroup place
+after : (place : State) → AfterValue place → InGroup place
 after Valued is = tt
 after Separated is = tt
 after _ is = absurd is
 
-run_literal : (place : Place) → AfterValue place → (l : Literal) (kinds : List Kind) → run place (literal_kind l ∷ kinds) ≡ run Valued kinds
+run_literal : (place : State) → AfterValue place → (l : Literal) (kinds : List Kind) → run place (literal_kind l ∷ kinds) ≡ run Valued kinds
 run_literal Valued is integer kinds = refl
 run_literal Valued is repeat kinds = refl
 run_literal Valued is text kinds = refl
@@ -62,28 +62,28 @@ run_first repeat kinds = refl
 run_first text kinds = refl
 run_first logical kinds = refl
 
-run_comma : (comma : Bool) (kinds : List Kind) (end : Option Place) → ((place : Place) → AfterValue place → run place kinds ≡ end) → run Valued (comma_then comma kinds) ≡ end
+run_comma : (comma : Bool) (kinds : List Kind) (end : Option State) → ((place : State) → AfterValue place → run place kinds ≡ end) → run Valued (comma_then comma kinds) ≡ end
 run_comma true kinds end h = h Separated tt
 run_comma false kinds end h = h Valued tt
 
-run_values : (values : List Value) (kinds : List Kind) (end : Option Place) → ((place : Place) → AfterValue place → run place kinds ≡ end) → (place : Place) → AfterValue place → run place (values_then values kinds) ≡ end
+run_values : (values : List Value) (kinds : List Kind) (end : Option State) → ((place : State) → AfterValue place → run place kinds ≡ end) → (place : State) → AfterValue place → run place (values_then values kinds) ≡ end
 run_values [] kinds end h place is = h place is
 run_values (value ∷ values) kinds end h place is =
     run_literal place is value.literal (comma_then value.comma (values_then values kinds)) ∙ run_comma value.comma (values_then values kinds) end (run_values values kinds end h)
 
-run_slash : (place : Place) → InGroup place → (kinds : List Kind) → run place (kind.Slash ∷ kinds) ≡ run Outside kinds
+run_slash : (place : State) → InGroup place → (kinds : List Kind) → run place (kind.Slash ∷ kinds) ≡ run Outside kinds
 run_slash Inside is kinds = refl
 run_slash Valued is kinds = refl
 run_slash Separated is kinds = refl
 run_slash _ is kinds = absurd is
 
-run_word : (place : Place) → InGroup place → (kinds : List Kind) → run place (kind.Word ∷ kinds) ≡ run Named kinds
+run_word : (place : State) → InGroup place → (kinds : List Kind) → run place (kind.Word ∷ kinds) ≡ run Named kinds
 run_word Inside is kinds = refl
 run_word Valued is kinds = refl
 run_word Separated is kinds = refl
 run_word _ is kinds = absurd is
 
-run_assignments : (others : List Assignment) (kinds : List Kind) (place : Place) → InGroup place → run place (assignments_then others (kind.Slash ∷ kinds)) ≡ run Outside kinds
+run_assignments : (others : List Assignment) (kinds : List Kind) (place : State) → InGroup place → run place (assignments_then others (kind.Slash ∷ kinds)) ≡ run Outside kinds
 run_assignments [] kinds place is = run_slash place is kinds
 run_assignments (a ∷ others) kinds place is =
     let rest = assignments_then others (kind.Slash ∷ kinds) in
@@ -105,7 +105,7 @@ record Tail (values : List Kind → List Kind) (kinds : List Kind) : Type 0 wher
   groups : List (List Assignment)
   spelled : kinds ≡ values (rest_of others groups)
 
-abbrev Parses : Place → List Kind → Type 0
+abbrev Parses : State → List Kind → Type 0
 Parses Outside kinds = IsNamelist kinds
 Parses Inside kinds = Tail (λ rest. rest) kinds
 Parses Named kinds = (a : Assignment) × Tail (λ rest. kind.Equals ∷ value_then a.first (values_then a.others rest)) kinds
@@ -142,7 +142,7 @@ equals_next kinds (v, vs, t) = (record { first = v; others = vs }, record { othe
 group_next : (kinds : List Kind) → Parses Inside kinds → Parses Outside (kind.Group ∷ kinds)
 group_next kinds t = record { groups = t.others ∷ t.groups; spelled = ap (λ (ks : List Kind). kind.Group ∷ ks) t.spelled }
 
-abbrev Reads : Option Place → List Kind → Type 0
+abbrev Reads : Option State → List Kind → Type 0
 Reads None kinds = Unit {0}
 Reads (Some next) kinds = Parses next kinds
 
@@ -151,7 +151,7 @@ in_group_next kind.Word kinds p some = word_next kinds p
 in_group_next kind.Slash kinds p some = slash_next kinds p
 in_group_next _ kinds p some = absurd (some refl)
 
-sound_step : (place : Place) (k : Kind) (kinds : List Kind) → Reads (follow place k) kinds → (follow place k ≡ None → ⊥) → Parses place (k ∷ kinds)
+sound_step : (place : State) (k : Kind) (kinds : List Kind) → Reads (follow place k) kinds → (follow place k ≡ None → ⊥) → Parses place (k ∷ kinds)
 sound_step Outside kind.Group kinds p some = group_next kinds p
 sound_step Outside _ kinds p some = absurd (some refl)
 sound_step Inside k kinds p some = in_group_next k kinds p some
@@ -178,7 +178,7 @@ sound_step Separated kind.Word kinds p some = no_value (kind.Word ∷ kinds) (wo
 sound_step Separated kind.Slash kinds p some = no_value (kind.Slash ∷ kinds) (slash_next kinds p)
 sound_step Separated _ kinds p some = absurd (some refl)
 
-end_parses : (place : Place) → run place [] ≡ Some Outside → Parses place []
+end_parses : (place : State) → run place [] ≡ Some Outside → Parses place []
 end_parses Outside e = record { groups = []; spelled = refl }
 end_parses Inside e = absurd cc
 end_parses Named e = absurd cc
@@ -186,17 +186,17 @@ end_parses Assigned e = absurd cc
 end_parses Valued e = absurd cc
 end_parses Separated e = absurd cc
 
-reads : (o : Option Place) (kinds : List Kind) → ((next : Place) → run next kinds ≡ Some Outside → Parses next kinds) → onward o (λ next. run next kinds) ≡ Some Outside → Reads o kinds × (o ≡ None → ⊥)
+reads : (o : Option State) (kinds : List Kind) → ((next : State) → run next kinds ≡ Some Outside → Parses next kinds) → onward o (λ next. run next kinds) ≡ Some Outside → Reads o kinds × (o ≡ None → ⊥)
 reads None kinds go e = absurd cc
 reads (Some next) kinds go e = (go next e, λ h. cc)
 
-sound : (kinds : List Kind) (place : Place) → run place kinds ≡ Some Outside → Parses place kinds
+sound : (kinds : List Kind) (place : State) → run place kinds ≡ Some Outside → Parses place kinds
 sound [] place e = end_parses place e
 sound (k ∷ kinds) place e = let r = reads (follow place k) kinds (sound kinds) e in sound_step place k kinds r.0 r.1
 
 -- ---- fronts
 
-closing : Place → List Kind
+closing : State → List Kind
 closing Outside = []
 closing Inside = kind.Slash ∷ []
 closing Named = kind.Equals ∷ kind.Integer ∷ kind.Slash ∷ []
@@ -204,7 +204,7 @@ closing Assigned = kind.Integer ∷ kind.Slash ∷ []
 closing Valued = kind.Slash ∷ []
 closing Separated = kind.Slash ∷ []
 
-run_closing : (place : Place) → run place (closing place) ≡ Some Outside
+run_closing : (place : State) → run place (closing place) ≡ Some Outside
 unfolding closing
 run_closing Outside = refl
 run_closing Inside = refl
@@ -213,22 +213,22 @@ run_closing Assigned = refl
 run_closing Valued = refl
 run_closing Separated = refl
 
-pub begins_some : (front : List Kind) (place : Place) → run Outside front ≡ Some place → BeginsOne front
+pub begins_some : (front : List Kind) (place : State) → run Outside front ≡ Some place → BeginsOne front
 begins_some front place e = record {
-  behind = closing place;
-  whole = sound (front ++ closing place) Outside (run_append Outside front (closing place) ∙ ap (λ (o : Option Place). onward o (λ next. run next (closing place))) e ∙ run_closing place);
+  tail = closing place;
+  whole = sound (front ++ closing place) Outside (run_append Outside front (closing place) ∙ ap (λ (o : Option State). onward o (λ next. run next (closing place))) e ∙ run_closing place);
 }
 
 pub begins_none : (front : List Kind) → run Outside front ≡ None → BeginsOne front → ⊥
 begins_none front e b =
-    let whole : run Outside (front ++ b.behind) ≡ Some Outside = ap (run Outside) b.whole.spelled ∙ run_spelling b.whole.groups in
-    let none : run Outside (front ++ b.behind) ≡ None = run_append Outside front b.behind ∙ ap (λ (o : Option Place). onward o (λ next. run next b.behind)) e in
+    let whole : run Outside (front ++ b.tail) ≡ Some Outside = ap (run Outside) b.whole.spelled ∙ run_spelling b.whole.groups in
+    let none : run Outside (front ++ b.tail) ≡ None = run_append Outside front b.tail ∙ ap (λ (o : Option State). onward o (λ next. run next b.tail)) e in
     cc
 
 is_namelist : (kinds : List Kind) → run Outside kinds ≡ Some Outside → IsNamelist kinds
 is_namelist kinds e = sound kinds Outside e
 
-none_else : (kinds : List Kind) (place : Place) → run Outside kinds ≡ Some place → (place ≡ Outside → ⊥) → IsNamelist kinds → ⊥
+none_else : (kinds : List Kind) (place : State) → run Outside kinds ≡ Some place → (place ≡ Outside → ⊥) → IsNamelist kinds → ⊥
 none_else kinds place e other n =
     let there : run Outside kinds ≡ Some Outside = ap (run Outside) n.spelled ∙ run_spelling n.groups in
     let same : place ≡ Outside = cc in
@@ -237,27 +237,27 @@ none_else kinds place e other n =
 -- ---- the first token that can't follow
 
 -- how a search that began at a place ended
-record Stops (place : Place) (tokens : List Lexeme) (line : ℕ) : Type 0 where
+record Stops (place : State) (tokens : List Lexeme) (line : ℕ) : Type 0 where
   front : List Lexeme
   token : Lexeme
-  behind : List Lexeme
-  last_place : Place
-  parts : tokens ≡ front ++ token ∷ behind
+  tail : List Lexeme
+  last_place : State
+  parts : tokens ≡ front ++ token ∷ tail
   led : run place (kinds_of front) ≡ Some last_place
   wrong : follow last_place token.kind ≡ None
   there : token.line ≡ line
 
-record Early (last : ℕ) (place : Place) (tokens : List Lexeme) (line : ℕ) : Type 0 where
-  last_place : Place
+record Early (last : ℕ) (place : State) (tokens : List Lexeme) (line : ℕ) : Type 0 where
+  last_place : State
   led : run place (kinds_of tokens) ≡ Some last_place
   other : last_place ≡ Outside → ⊥
   there : line ≡ last
 
-abbrev Ended : ℕ → Place → List Lexeme → Option ℕ → Type 0
+abbrev Ended : ℕ → State → List Lexeme → Option ℕ → Type 0
 Ended last place tokens None = run place (kinds_of tokens) ≡ Some Outside
 Ended last place tokens (Some line) = Stops place tokens line ⊎ Early last place tokens line
 
-ended_now : (last : ℕ) (place : Place) → Ended last place [] (end_fault last place)
+ended_now : (last : ℕ) (place : State) → Ended last place [] (end_fault last place)
 ended_now last Outside = refl
 ended_now last Inside = inr (record { last_place = Inside; led = refl; other = λ e. cc; there = refl })
 ended_now last Named = inr (record { last_place = Named; led = refl; other = λ e. cc; there = refl })
@@ -265,15 +265,15 @@ ended_now last Assigned = inr (record { last_place = Assigned; led = refl; other
 ended_now last Valued = inr (record { last_place = Valued; led = refl; other = λ e. cc; there = refl })
 ended_now last Separated = inr (record { last_place = Separated; led = refl; other = λ e. cc; there = refl })
 
-on : (place next : Place) (token : Lexeme) (kinds : List Kind) → follow place token.kind ≡ Some next → run place (token.kind ∷ kinds) ≡ run next kinds
-on place next token kinds e = ap (λ (o : Option Place). onward o (λ next. run next kinds)) e
+on : (place next : State) (token : Lexeme) (kinds : List Kind) → follow place token.kind ≡ Some next → run place (token.kind ∷ kinds) ≡ run next kinds
+on place next token kinds e = ap (λ (o : Option State). onward o (λ next. run next kinds)) e
 
-later : (last : ℕ) (place next : Place) (token : Lexeme) (others : List Lexeme) (o : Option ℕ) → follow place token.kind ≡ Some next → Ended last next others o → Ended last place (token ∷ others) o
+later : (last : ℕ) (place next : State) (token : Lexeme) (others : List Lexeme) (o : Option ℕ) → follow place token.kind ≡ Some next → Ended last next others o → Ended last place (token ∷ others) o
 later last place next token others None e h = on place next token (kinds_of others) e ∙ h
 later last place next token others (Some line) e (inl s) = inl (record {
   front = token ∷ s.front;
   token = s.token;
-  behind = s.behind;
+  tail = s.tail;
   last_place = s.last_place;
   parts = ap (λ (ts : List Lexeme). token ∷ ts) s.parts;
   led = on place next token (kinds_of s.front) e ∙ s.led;
@@ -287,31 +287,31 @@ later last place next token others (Some line) e (inr s) = inr (record {
   there = s.there;
 })
 
-ended_step : (last : ℕ) (place : Place) (token : Lexeme) (others : List Lexeme) (o : Option Place) → follow place token.kind ≡ o → ((next : Place) → Ended last next others (syntax_fault last next others))
-    → Ended last place (token ∷ others) (fault_behind token.line o (λ next. syntax_fault last next others))
-ended_step last place token others None e go = inl (record { front = []; token = token; behind = others; last_place = place; parts = refl; led = refl; wrong = e; there = refl })
+ended_step : (last : ℕ) (place : State) (token : Lexeme) (others : List Lexeme) (o : Option State) → follow place token.kind ≡ o → ((next : State) → Ended last next others (syntax_fault last next others))
+    → Ended last place (token ∷ others) (fault_after token.line o (λ next. syntax_fault last next others))
+ended_step last place token others None e go = inl (record { front = []; token = token; tail = others; last_place = place; parts = refl; led = refl; wrong = e; there = refl })
 ended_step last place token others (Some next) e go = later last place next token others (syntax_fault last next others) e (go next)
 
-ended : (last : ℕ) (tokens : List Lexeme) (place : Place) → Ended last place tokens (syntax_fault last place tokens)
+ended : (last : ℕ) (tokens : List Lexeme) (place : State) → Ended last place tokens (syntax_fault last place tokens)
 unfolding syntax_fault
 ended last [] place = ended_now last place
 ended last (token ∷ others) place = ended_step last place token others (follow place token.kind) refl (ended last others)
 
-kinds_append : (front behind : List Lexeme) → kinds_of (front ++ behind) ≡ kinds_of front ++ kinds_of behind
-kinds_append [] behind = refl
-kinds_append (token ∷ front) behind = ap (λ (ks : List Kind). token.kind ∷ ks) (kinds_append front behind)
+kinds_append : (front tail : List Lexeme) → kinds_of (front ++ tail) ≡ kinds_of front ++ kinds_of tail
+kinds_append [] tail = refl
+kinds_append (token ∷ front) tail = ap (λ (ks : List Kind). token.kind ∷ ks) (kinds_append front tail)
 
 stops_at : (tokens : List Lexeme) (line : ℕ) → Stops Outside tokens line → StopsAt tokens line
 stops_at tokens line s = record {
   front = s.front;
   token = s.token;
-  behind = s.behind;
+  tail = s.tail;
   parts = s.parts;
   before = begins_some (kinds_of s.front) s.last_place s.led;
   wrong = begins_none (kinds_of (s.front ++ s.token ∷ []))
       (ap (run Outside) (kinds_append s.front (s.token ∷ [])) ∙ run_append Outside (kinds_of s.front) (s.token.kind ∷ [])
-      ∙ ap (λ (o : Option Place). onward o (λ next. run next (s.token.kind ∷ []))) s.led
-      ∙ ap (λ (o : Option Place). onward o (λ next. Some next)) s.wrong);
+      ∙ ap (λ (o : Option State). onward o (λ next. run next (s.token.kind ∷ []))) s.led
+      ∙ ap (λ (o : Option State). onward o (λ next. Some next)) s.wrong);
   there = s.there;
 }
 

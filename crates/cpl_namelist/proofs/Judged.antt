@@ -1,12 +1,13 @@
 -- The steps through headings and assignments.
 use Rattle.std.proofs.Common.{◌≡◌, ℕ, List, [], ◌∷◌, Bool, false, cond, Option, Some, Result, Ok, Err, sym, ap, ◌∙◌}
 use Rattle.std.specs.Prelude.{slice_set}
+use Rattle.cpl_fixed.specs.Results.{◌>>=◌}
 use Rattle.cpl_namelist.specs.declared.fault.NamesError.{NamesError}
 use Rattle.cpl_namelist.specs.declared.fault.NamesError.TheVariants as fault
 use Rattle.cpl_namelist.specs.Tokens.{Lexeme}
 use Rattle.cpl_namelist.specs.Table.{row_at}
 use Rattle.cpl_namelist.specs.Numbers.{fitting}
-use Rattle.cpl_namelist.specs.Settings.{◌>>=◌, Choices, is_given, set_to, assigned, token_judged, judged}
+use Rattle.cpl_namelist.specs.Settings.{Choices, is_given, set_to, assigned, token_judged, judged}
 
 pub assigned_ok : (chosen : Choices) (line : ℕ) (others : List Lexeme) (name : Option ℕ) (place : ℕ) (ns : List ℕ) → name ≡ Some place → is_given chosen place ≡ false → fitting (row_at place) others ≡ Some ns
     → assigned chosen line others name ≡ Ok (record { group = chosen.group; groups = chosen.groups; given = slice_set chosen.given place (Some ns) })

@@ -7,6 +7,7 @@ pub mod Wholes
 pub mod Months
 pub mod Given
 pub mod Fine
+pub mod Times
 pub mod Named
 pub mod Grammars
 pub mod Calm

@@ -1,27 +1,29 @@
 -- The names that are read are in their ranges.
-use Rattle.std.proofs.Common.{◌≡◌, ℕ, zero, suc, ◌+◌, ◌*◌, ◌/◌, ◌%◌, ◌<◌, ◌≤◌, ℤ, pos, List, [], ◌∷◌, Bool, true, false, cond, Option, Some, None, Result, Ok, Err, get_or, map, length, lit<, refl, ap, subst, ◌∙◌, arith}
-use Rattle.std.specs.Prelude.{◌&&◌, ◌||◌, not, nat_le, nat_lt, ◌==◌, is_some, unwrap_or, IfOk}
+use Rattle.std.proofs.Common.{◌≡◌, ℕ, zero, suc, ◌+◌, ◌<◌, ◌≤◌, ℤ, pos, List, [], ◌∷◌, Bool, true, false, cond, Option, Some, None, Result, Ok, Err, get_or, map, length, lit<, refl, sym, ap, subst, ◌∙◌, arith}
+use Rattle.std.specs.Prelude.{◌&&◌, ◌||◌, not, nat_le, ◌==◌, is_some, unwrap_or, IfOk}
 use Rattle.std.specs.List.{AllByRecursion, range_with_len}
-use Rattle.std.proofs.lemmas.Bool.{leb-true, ltb-true, eqb-true}
+use Rattle.std.proofs.lemmas.Bool.{leb-true}
+use Rattle.std.proofs.lemmas.Result.{IfOk-weaker}
 use Rattle.std.proofs.lemmas.List.FromFn.{get_or-map-range_with_len}
 use Rattle.jiff_core.proofs.SignedLemmas.{signed_arith}
 use Rattle.jiff.specs.Words.{days_in_month}
+use Rattle.cpl_fixed.specs.Results.{◌>>=◌}
 use Rattle.cpl_namelist.specs.declared.fault.NamesError.{NamesError}
-use Rattle.cpl_namelist.specs.declared.fault.NamesError.TheVariants as fault
-use Rattle.cpl_namelist.specs.declared.fault.StepFault.{StepFault}
-use Rattle.cpl_namelist.specs.declared.fault.StepFault.TheVariants as step
 use Rattle.cpl_namelist.specs.declared.fault.Required.{Required}
 use Rattle.cpl_namelist.specs.declared.fault.Required.TheVariants as required
-use Rattle.cpl_namelist.specs.declared.names.Steps.{Steps}
-use Rattle.cpl_namelist.specs.declared.table.TheConstants as table
+use Rattle.cpl_namelist.specs.declared.names.Names.{Names}
+use Rattle.cpl_namelist.specs.declared.names.StepCounts.{StepCounts}
+use Rattle.cpl_namelist.specs.declared.places.TheConstants as places
+use Rattle.cpl_namelist.specs.Tokens.{tokens}
 use Rattle.cpl_namelist.specs.Table.{row_at}
 use Rattle.cpl_namelist.specs.Numbers.{is_date, is_moment}
-use Rattle.cpl_namelist.specs.Settings.{◌>>=◌, Choices, given_at, is_given, number, default_of}
-use Rattle.cpl_namelist.specs.Names.{signed_numbers, layout_of, rates_of, divided, need, at_most, steps_of, run_length, missing, unless_missing, names_with, names_of}
+use Rattle.cpl_namelist.specs.Settings.{Choices, nothing, judged, given_at, is_given, number, default_of}
+use Rattle.cpl_namelist.specs.Names.{signed_numbers, layout_of, rates_of, run_length, missing, unless_missing, names_with, names_of}
 use Rattle.cpl_namelist.specs.Civil.{at, IsStart}
-use Rattle.cpl_namelist.specs.Ranges.{IsFrom, IsFromℤ, IsLayout, AreRates, AreNames}
+use Rattle.cpl_namelist.specs.Ranges.{IsFrom, IsFromℤ, IsLayout, AreRates, AreNames, FillTime, HasTimes}
 use Rattle.cpl_namelist.proofs.Given.{both}
 use Rattle.cpl_namelist.proofs.Fine.{Fine, fine_at, number_in}
+use Rattle.cpl_namelist.proofs.Times.{steps_in}
 use Rattle.cpl_namelist.proofs.Wholes.{steps_chosen}
 
 or_true : (b : Bool) → (b || true) ≡ true
@@ -49,22 +51,22 @@ given_in chosen place k fine given lt = number_in chosen place k fine (true_or (
 rates_in : (chosen : Choices) → Fine chosen → AreRates (rates_of chosen)
 unfolding row_at rates_of signed_numbers
 rates_in chosen fine = record {
-  ca = to_signed 1 1_048_576 (number chosen table.CA 0) (default_in chosen table.CA 0 fine refl (lit< tt));
-  kh = to_signed 0 1_048_576 (number chosen table.KH 0) (default_in chosen table.KH 0 fine refl (lit< tt));
-  ke = to_signed 0 1_048_576 (number chosen table.KE 0) (default_in chosen table.KE 0 fine refl (lit< tt));
-  hs = to_signed 0 1_048_576 (number chosen table.HS 0) (default_in chosen table.HS 0 fine refl (lit< tt));
-  ko = to_signed 0 131_072 (number chosen table.KO 0) (default_in chosen table.KO 0 fine refl (lit< tt));
-  rc = to_signed 0 1_048_576 (number chosen table.RC 0) (default_in chosen table.RC 0 fine refl (lit< tt));
-  month = all_signed (IsFromℤ 0 4_000) (λ k. pos (number chosen table.MONTH k)) 0 12 (λ k lt. to_signed 0 4_000 (number chosen table.MONTH k) (default_in chosen table.MONTH k fine refl (omega arith)));
-  cl = to_signed 1 1_048_576 (number chosen table.CL 0) (default_in chosen table.CL 0 fine refl (lit< tt));
-  cap = to_signed 0 1_048_576 (number chosen table.CAP 0) (default_in chosen table.CAP 0 fine refl (lit< tt));
-  land_albedo = to_signed 0 1_000 (number chosen table.LAND_ALBEDO 0) (default_in chosen table.LAND_ALBEDO 0 fine refl (lit< tt));
-  h0 = to_signed 1 1_048_576 (number chosen table.H0 0) (default_in chosen table.H0 0 fine refl (lit< tt));
-  bounds = all_signed (IsFromℤ 1 1_048_576) (λ k. pos (number chosen table.BOUNDS k)) 0 4 (λ k lt. to_signed 1 1_048_576 (number chosen table.BOUNDS k) (default_in chosen table.BOUNDS k fine refl (omega arith)));
-  ice_albedo = to_signed 0 1_000 (number chosen table.ICE_ALBEDO 0) (default_in chosen table.ICE_ALBEDO 0 fine refl (lit< tt));
-  water_albedo = to_signed 0 1_000 (number chosen table.WATER_ALBEDO 0) (default_in chosen table.WATER_ALBEDO 0 fine refl (lit< tt));
-  slope = default_in chosen table.SLOPE 0 fine refl (lit< tt);
-  mix = default_in chosen table.MIX 0 fine refl (lit< tt);
+  ca = to_signed 1 1_048_576 (number chosen places.CA 0) (default_in chosen places.CA 0 fine refl (lit< tt));
+  kh = to_signed 0 1_048_576 (number chosen places.KH 0) (default_in chosen places.KH 0 fine refl (lit< tt));
+  ke = to_signed 0 1_048_576 (number chosen places.KE 0) (default_in chosen places.KE 0 fine refl (lit< tt));
+  hs = to_signed 0 1_048_576 (number chosen places.HS 0) (default_in chosen places.HS 0 fine refl (lit< tt));
+  ko = to_signed 0 131_072 (number chosen places.KO 0) (default_in chosen places.KO 0 fine refl (lit< tt));
+  rc = to_signed 0 1_048_576 (number chosen places.RC 0) (default_in chosen places.RC 0 fine refl (lit< tt));
+  month = all_signed (IsFromℤ 0 4_000) (λ k. pos (number chosen places.MONTH k)) 0 12 (λ k lt. to_signed 0 4_000 (number chosen places.MONTH k) (default_in chosen places.MONTH k fine refl (omega arith)));
+  cl = to_signed 1 1_048_576 (number chosen places.CL 0) (default_in chosen places.CL 0 fine refl (lit< tt));
+  cap = to_signed 0 1_048_576 (number chosen places.CAP 0) (default_in chosen places.CAP 0 fine refl (lit< tt));
+  land_albedo = to_signed 0 1_000 (number chosen places.LAND_ALBEDO 0) (default_in chosen places.LAND_ALBEDO 0 fine refl (lit< tt));
+  h0 = to_signed 1 1_048_576 (number chosen places.H0 0) (default_in chosen places.H0 0 fine refl (lit< tt));
+  bounds = all_signed (IsFromℤ 1 1_048_576) (λ k. pos (number chosen places.BOUNDS k)) 0 4 (λ k lt. to_signed 1 1_048_576 (number chosen places.BOUNDS k) (default_in chosen places.BOUNDS k fine refl (omega arith)));
+  ice_albedo = to_signed 0 1_000 (number chosen places.ICE_ALBEDO 0) (default_in chosen places.ICE_ALBEDO 0 fine refl (lit< tt));
+  water_albedo = to_signed 0 1_000 (number chosen places.WATER_ALBEDO 0) (default_in chosen places.WATER_ALBEDO 0 fine refl (lit< tt));
+  slope = default_in chosen places.SLOPE 0 fine refl (lit< tt);
+  mix = default_in chosen places.MIX 0 fine refl (lit< tt);
 }
 
 layout_in : (chosen : Choices) (place : ℕ) → Fine chosen → is_some (row_at place).default ≡ true → (row_at place).count ≡ 2 → (row_at place).low ≡ 1 → (row_at place).high ≡ 64 → IsLayout (layout_of chosen place)
@@ -122,77 +124,16 @@ some_given : (o : Option (List ℕ)) → is_some o ≡ true → (ns : List ℕ) 
 some_given None e = absurd cc
 some_given (Some ns) e = (ns, refl)
 
-start_in : (chosen : Choices) → Fine chosen → is_given chosen table.CURRENT_DATE ≡ true → IsStart (signed_numbers chosen table.CURRENT_DATE 6)
+start_in : (chosen : Choices) → Fine chosen → is_given chosen places.CURRENT_DATE ≡ true → IsStart (signed_numbers chosen places.CURRENT_DATE 6)
 unfolding row_at signed_numbers
 start_in chosen fine given =
-    let ns = some_given (given_at chosen table.CURRENT_DATE) given in
-    let fit = fine_at chosen fine table.CURRENT_DATE ns.0 ns.1 in
+    let ns = some_given (given_at chosen places.CURRENT_DATE) given in
+    let fit = fine_at chosen fine places.CURRENT_DATE ns.0 ns.1 in
     let moment = (both (length ns.0 == 6) (is_moment ns.0) fit.suited).1 in
-    let here : (k : ℕ) → k < 6 → at (map (λ k. pos (number chosen table.CURRENT_DATE k)) (range_with_len 0 6)) k ≡ pos (get_or ns.0 k 0) = λ k lt.
-    get_or-map-range_with_len (λ k. pos (number chosen table.CURRENT_DATE k)) 0 6 k k (pos 0) lt (omega arith)
-    ∙ ap (λ (o : Option (List ℕ)). pos (get_or (unwrap_or o (default_of (row_at table.CURRENT_DATE))) k 0)) ns.1 in
+    let here : (k : ℕ) → k < 6 → at (map (λ k. pos (number chosen places.CURRENT_DATE k)) (range_with_len 0 6)) k ≡ pos (get_or ns.0 k 0) = λ k lt.
+    get_or-map-range_with_len (λ k. pos (number chosen places.CURRENT_DATE k)) 0 6 k k (pos 0) lt (omega arith)
+    ∙ ap (λ (o : Option (List ℕ)). pos (get_or (unwrap_or o (default_of (row_at places.CURRENT_DATE))) k 0)) ns.1 in
     start_is _ _ _ _ _ _ _ (here 0 (lit< tt)) (here 1 (lit< tt)) (here 2 (lit< tt)) (here 3 (lit< tt)) (here 4 (lit< tt)) (here 5 (lit< tt)) (moment_parts ns.0 moment)
-
--- ---- steps
-
-need_ok : (s : StepFault) (part whole n : ℕ) → 1 ≤ whole → need s (divided part whole) ≡ Ok n → 1 ≤ n
-need_ok s part whole n some e = by_test (nat_lt 0 part && whole % part == 0) refl e
-  where
-    positive : (part whole q : ℕ) → 1 ≤ whole → 0 < part → whole % part ≡ 0 → whole / part ≡ q → 1 ≤ q
-    positive part whole zero some lt rest is = let none : part * (whole / part) ≡ part * 0 = ap (λ (n : ℕ). part * n) is in absurd (omega (arith, none, rest))
-    positive part whole (suc q) some lt rest is = omega arith
-
-    by_test : (b : Bool) → (nat_lt 0 part && whole % part == 0) ≡ b → need s (cond b (Some (whole / part)) None) ≡ Ok n → 1 ≤ n
-    by_test true is e =
-        let t = both (nat_lt 0 part) (whole % part == 0) is in
-        let same : whole / part ≡ n = cc in
-        positive part whole n some (ltb-true 0 part t.0) (eqb-true (whole % part) 0 t.1) same
-    by_test false is e = absurd cc
-
-most_ok : (s : StepFault) (limit n m : ℕ) → at_most s limit n ≡ Ok m → (n ≡ m) × (n ≤ limit)
-most_ok s limit n m e = by_test (nat_le n limit) refl e
-  where
-    by_test : (b : Bool) → nat_le n limit ≡ b → cond b (Ok n) (Err (fault.Step s)) ≡ Ok m → (n ≡ m) × (n ≤ limit)
-    by_test true is e = (cc, leb-true n limit is)
-    by_test false is e = absurd cc
-
-record AreSteps (s : Steps) : Type 0 where
-  fast : IsFrom 1 1_000 s.fast
-  ocean : IsFrom 1 100 s.ocean
-  count : s.count ≤ 10_000
-
-abbrev made : ℕ → ℕ → ℕ → Steps
-made f o c = record { fast = f; ocean = o; count = c }
-
-abbrev done_steps : Steps → Result Steps NamesError
-done_steps s = Ok s
-
-ok_steps : (a b : Steps) → done_steps a ≡ done_steps b → a ≡ b
-ok_steps a b e = cc
-
-three_ok : (a b c : Result ℕ NamesError) (f : ℕ → ℕ → ℕ → Result Steps NamesError) (s : Steps) → (a >>= λ x. b >>= λ y. c >>= λ z. f x y z) ≡ Ok s
-    → (x : ℕ) × (y : ℕ) × (z : ℕ) × (a ≡ Ok x) × (b ≡ Ok y) × (c ≡ Ok z) × (f x y z ≡ Ok s)
-three_ok (Ok x) (Ok y) (Ok z) f s e = (x, y, z, refl, refl, refl, e)
-three_ok (Ok x) (Ok y) (Err d) f s e = absurd cc
-three_ok (Ok x) (Err d) c f s e = absurd cc
-three_ok (Err d) b c f s e = absurd cc
-
-steps_in : (atmos cpld ocean run : ℕ) (s : Steps) → 1 ≤ cpld → steps_of atmos cpld ocean run ≡ Ok s → AreSteps s
-steps_in atmos cpld ocean run s some e =
-    let a = three_ok (need step.Atmos (divided atmos cpld)) (need step.Ocean (divided ocean cpld)) (need step.Run (divided cpld run))
-    (λ f o c. at_most step.FastCount 1000 f >>= λ few. at_most step.OceanCount 100 o >>= λ some. at_most step.Count 10000 c >>= λ steps. Ok (made few some steps)) s e in
-    let b = three_ok (at_most step.FastCount 1000 a.0) (at_most step.OceanCount 100 a.1) (at_most step.Count 10000 a.2) (λ f o c. Ok (made f o c)) s a.6 in
-    let f = most_ok step.FastCount 1000 a.0 b.0 b.3 in
-    let o = most_ok step.OceanCount 100 a.1 b.1 b.4 in
-    let c = most_ok step.Count 10000 a.2 b.2 b.5 in
-    let fast = need_ok step.Atmos atmos cpld a.0 some a.3 in
-    let ocean = need_ok step.Ocean ocean cpld a.1 some a.4 in
-    let same : made b.0 b.1 b.2 ≡ s = ok_steps (made b.0 b.1 b.2) s b.6 in
-    subst AreSteps same (record {
-      fast = (omega (arith, f, fast), omega (arith, f));
-      ocean = (omega (arith, o, ocean), omega (arith, o));
-      count = omega (arith, c);
-    })
 
 missing_no : (b : Bool) (r : Required) (others : Option Required) → cond (not b) (Some r) others ≡ None → (b ≡ true) × (others ≡ None)
 missing_no true r others e = (refl, e)
@@ -200,50 +141,103 @@ missing_no false r others e = absurd cc
 
 -- the names without a default that are given
 record AllGiven (chosen : Choices) : Type 0 where
-  current_date : is_given chosen table.CURRENT_DATE ≡ true
-  dt_cpld : is_given chosen table.DT_CPLD ≡ true
+  current_date : is_given chosen places.CURRENT_DATE ≡ true
+  dt_atmos : is_given chosen places.DT_ATMOS ≡ true
+  dt_cpld : is_given chosen places.DT_CPLD ≡ true
+  dt_ocean : is_given chosen places.DT_OCEAN ≡ true
 
 all_given : (chosen : Choices) → missing chosen ≡ None → AllGiven chosen
 all_given chosen e =
-    let a = missing_no (is_given chosen table.CURRENT_DATE) required.CurrentDate _ e in
-    let b = missing_no (is_given chosen table.CALENDAR) required.Calendar _ a.1 in
-    let c = missing_no (is_given chosen table.DT_ATMOS) required.DtAtmos _ b.1 in
-    let d = missing_no (is_given chosen table.DT_CPLD) required.DtCpld _ c.1 in
-    record { current_date = a.0; dt_cpld = d.0 }
+    let a = missing_no (is_given chosen places.CURRENT_DATE) required.CurrentDate _ e in
+    let b = missing_no (is_given chosen places.CALENDAR) required.Calendar _ a.1 in
+    let c = missing_no (is_given chosen places.DT_ATMOS) required.DtAtmos _ b.1 in
+    let d = missing_no (is_given chosen places.DT_CPLD) required.DtCpld _ c.1 in
+    let o = missing_no (is_given chosen places.DT_OCEAN) required.DtOcean _ d.1 in
+    record { current_date = a.0; dt_atmos = c.0; dt_cpld = d.0; dt_ocean = o.0 }
 
-dt_in : (chosen : Choices) → Fine chosen → is_given chosen table.DT_CPLD ≡ true → IsFrom 1 2_678_400 (number chosen table.DT_CPLD 0)
+-- the seconds of a step
+record AreTimes (chosen : Choices) : Type 0 where
+  dt_atmos : IsFrom 1 2_678_400 (number chosen places.DT_ATMOS 0)
+  dt_cpld : IsFrom 1 2_678_400 (number chosen places.DT_CPLD 0)
+  dt_ocean : IsFrom 1 2_678_400 (number chosen places.DT_OCEAN 0)
+  days : IsFrom 0 1_000_000_000 (number chosen places.DAYS 0)
+  hours : IsFrom 0 1_000_000_000 (number chosen places.HOURS 0)
+  minutes : IsFrom 0 1_000_000_000 (number chosen places.MINUTES 0)
+  seconds : IsFrom 0 1_000_000_000 (number chosen places.SECONDS 0)
+
+times_in : (chosen : Choices) → Fine chosen → AllGiven chosen → AreTimes chosen
 unfolding row_at
-dt_in chosen fine given = given_in chosen table.DT_CPLD 0 fine given (lit< tt)
+times_in chosen fine given = record {
+  dt_atmos = given_in chosen places.DT_ATMOS 0 fine given.dt_atmos (lit< tt);
+  dt_cpld = given_in chosen places.DT_CPLD 0 fine given.dt_cpld (lit< tt);
+  dt_ocean = given_in chosen places.DT_OCEAN 0 fine given.dt_ocean (lit< tt);
+  days = default_in chosen places.DAYS 0 fine refl (lit< tt);
+  hours = default_in chosen places.HOURS 0 fine refl (lit< tt);
+  minutes = default_in chosen places.MINUTES 0 fine refl (lit< tt);
+  seconds = default_in chosen places.SECONDS 0 fine refl (lit< tt);
+}
 
-layouts_in : (chosen : Choices) → Fine chosen → AllByRecursion IsLayout (layout_of chosen table.ATMOS_LAYOUT ∷ layout_of chosen table.LAND_LAYOUT ∷ layout_of chosen table.ICE_LAYOUT ∷ layout_of chosen table.OCEAN_LAYOUT ∷ [])
+layouts_in : (chosen : Choices) → Fine chosen → AllByRecursion IsLayout (layout_of chosen places.ATMOS_LAYOUT ∷ layout_of chosen places.LAND_LAYOUT ∷ layout_of chosen places.ICE_LAYOUT ∷ layout_of chosen places.OCEAN_LAYOUT ∷ [])
 unfolding row_at
 layouts_in chosen fine =
-    (layout_in chosen table.ATMOS_LAYOUT fine refl refl refl refl, (layout_in chosen table.LAND_LAYOUT fine refl refl refl refl, (layout_in chosen table.ICE_LAYOUT fine refl refl refl refl, (layout_in chosen table.OCEAN_LAYOUT fine refl refl refl refl, tt))))
+    (layout_in chosen places.ATMOS_LAYOUT fine refl refl refl refl, (layout_in chosen places.LAND_LAYOUT fine refl refl refl refl, (layout_in chosen places.ICE_LAYOUT fine refl refl refl refl, (layout_in chosen places.OCEAN_LAYOUT fine refl refl refl refl, tt))))
 
-with_in : (chosen : Choices) (s : Steps) → Fine chosen → missing chosen ≡ None → steps_chosen chosen ≡ Ok s → AreNames (names_with chosen s)
+-- names in their ranges, whose steps fill the time
+pub record AreSound (chosen : Choices) (names : Names) : Type 0 where
+  pub ranges : AreNames names
+  pub times : FillTime names chosen
+
+with_in : (chosen : Choices) (s : StepCounts) → Fine chosen → missing chosen ≡ None → steps_chosen chosen ≡ Ok s → AreSound chosen (names_with chosen s)
 with_in chosen s fine none e =
     let given = all_given chosen none in
-    let dt = dt_in chosen fine given.dt_cpld in
-    let steps = steps_in (number chosen table.DT_ATMOS 0) (number chosen table.DT_CPLD 0) (number chosen table.DT_OCEAN 0) (run_length chosen) s dt.0 e in
+    let times = times_in chosen fine given in
+    let steps = steps_in (number chosen places.DT_ATMOS 0) (number chosen places.DT_CPLD 0) (number chosen places.DT_OCEAN 0) (run_length chosen) s times.dt_cpld.0 e in
     record {
-      start = start_in chosen fine given.current_date;
-      fast = steps.fast;
-      ocean_steps = steps.ocean;
-      steps = steps.count;
-      dt = to_signed 1 2_678_400 (number chosen table.DT_CPLD 0) dt;
-      layouts = layouts_in chosen fine;
-      rates = rates_in chosen fine;
+      ranges = record {
+        start = start_in chosen fine given.current_date;
+        fast = steps.fast;
+        ocean_steps = steps.ocean;
+        steps = steps.count;
+        dt = to_signed 1 2_678_400 (number chosen places.DT_CPLD 0) times.dt_cpld;
+        layouts = layouts_in chosen fine;
+        rates = rates_in chosen fine;
+      };
+      times = record {
+        days = times.days;
+        hours = times.hours;
+        minutes = times.minutes;
+        seconds = times.seconds;
+        dt_atmos = times.dt_atmos;
+        dt_cpld = times.dt_cpld;
+        dt_ocean = times.dt_ocean;
+        fast = steps.fast_fills;
+        ocean = steps.ocean_fills;
+        run = steps.count_fills;
+      };
     }
 
-by_steps : (chosen : Choices) (steps : Result Steps NamesError) → Fine chosen → missing chosen ≡ None → steps_chosen chosen ≡ steps → IfOk (steps >>= λ steps. Ok (names_with chosen steps)) AreNames
+by_steps : (chosen : Choices) (steps : Result StepCounts NamesError) → Fine chosen → missing chosen ≡ None → steps_chosen chosen ≡ steps → IfOk (steps >>= λ steps. Ok (names_with chosen steps)) (AreSound chosen)
 by_steps chosen (Ok s) fine none e = with_in chosen s fine none e
 by_steps chosen (Err d) fine none e = tt
 
-by_missing : (chosen : Choices) (m : Option Required) → Fine chosen → missing chosen ≡ m → IfOk (unless_missing m (steps_chosen chosen >>= λ steps. Ok (names_with chosen steps))) AreNames
+by_missing : (chosen : Choices) (m : Option Required) → Fine chosen → missing chosen ≡ m → IfOk (unless_missing m (steps_chosen chosen >>= λ steps. Ok (names_with chosen steps))) (AreSound chosen)
 by_missing chosen None fine e = by_steps chosen (steps_chosen chosen) fine e refl
 by_missing chosen (Some required) fine e = tt
 
+names_sound : (chosen : Choices) → Fine chosen → IfOk (names_of chosen) (AreSound chosen)
+unfolding names_of
+names_sound chosen fine = by_missing chosen (missing chosen) fine refl
+
 -- the names of what is given are in their ranges
 pub names_in : (chosen : Choices) → Fine chosen → IfOk (names_of chosen) AreNames
-unfolding names_of
-names_in chosen fine = by_missing chosen (missing chosen) fine refl
+names_in chosen fine = IfOk-weaker (names_of chosen) (AreSound chosen) AreNames (λ names sound. sound.ranges) (names_sound chosen fine)
+
+abbrev chosen_ok : Choices → Result Choices NamesError
+chosen_ok chosen = Ok chosen
+
+same_chosen : (a b : Choices) → chosen_ok a ≡ chosen_ok b → a ≡ b
+same_chosen a b e = cc
+
+-- and fill the time that the text gives
+pub names_fill : (bytes : List ℕ) (chosen : Choices) → judged nothing (tokens bytes) ≡ Ok chosen → Fine chosen → IfOk (names_of chosen) (HasTimes bytes)
+names_fill bytes chosen e fine = IfOk-weaker (names_of chosen) (AreSound chosen) (HasTimes bytes) (λ names sound other is. subst (FillTime names) (same_chosen chosen other (sym e ∙ is)) sound.times) (names_sound chosen fine)

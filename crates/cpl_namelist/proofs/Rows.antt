@@ -4,8 +4,7 @@ use Rattle.std.specs.Prelude.{◌&&◌, nat_le}
 use Rattle.std.specs.List.{list_all}
 use Rattle.std.proofs.lemmas.Bool.{leb-true}
 use Rattle.cpl_namelist.specs.declared.table.Row.{Row}
-use Rattle.cpl_namelist.specs.declared.table.TheConstants.{TABLE}
-use Rattle.cpl_namelist.specs.Table.{row_at, no_row}
+use Rattle.cpl_namelist.specs.Table.{format, row_at, no_row}
 
 both_true : (a b : Bool) → (a && b) ≡ true → (a ≡ true) × (b ≡ true)
 both_true true true e = (refl, refl)
@@ -20,4 +19,4 @@ small_at (row ∷ rows) (suc place) e = small_at rows place (both_true (nat_le r
 -- a row holds at most twelve values
 pub row_small : (place : ℕ) → (row_at place).count ≤ 12
 unfolding row_at
-row_small place = small_at (map (λ named. named.1) TABLE) place refl
+row_small place = small_at (map (λ entry. entry.row) format) place refl

@@ -14,7 +14,7 @@ pub data Literal : Type 0 where
   text : Literal
   logical : Literal
 
--- a value, and whether a comma stands behind it
+-- a value, and whether a comma follows
 pub record Value : Type 0 where
   pub literal : Literal
   pub comma : Bool
@@ -33,22 +33,22 @@ literal_kind logical = kind.Logical
 
 -- each of these spells something in front of the kinds that follow
 abbrev pub comma_then : Bool → List Kind → List Kind
-comma_then true behind = kind.Comma ∷ behind
-comma_then false behind = behind
+comma_then true tail = kind.Comma ∷ tail
+comma_then false tail = tail
 
 -- a literal, with its comma or without
 abbrev pub value_then : Value → List Kind → List Kind
-value_then value behind = literal_kind value.literal ∷ comma_then value.comma behind
+value_then value tail = literal_kind value.literal ∷ comma_then value.comma tail
 
 -- one value after the other
 abbrev pub values_then : List Value → List Kind → List Kind
-values_then [] behind = behind
-values_then (value ∷ values) behind = value_then value (values_then values behind)
+values_then [] tail = tail
+values_then (value ∷ values) tail = value_then value (values_then values tail)
 
 -- one assignment after the other
 abbrev pub assignments_then : List Assignment → List Kind → List Kind
-assignments_then [] behind = behind
-assignments_then (a ∷ others) behind = kind.Word ∷ kind.Equals ∷ value_then a.first (values_then a.others (assignments_then others behind))
+assignments_then [] tail = tail
+assignments_then (a ∷ others) tail = kind.Word ∷ kind.Equals ∷ value_then a.first (values_then a.others (assignments_then others tail))
 
 -- a group is a group token, assignments, and /; a namelist is a list of groups
 abbrev pub spelling : List (List Assignment) → List Kind
@@ -62,8 +62,8 @@ pub record IsNamelist (kinds : List Kind) : Type 0 where
 
 -- some namelist begins so
 pub record BeginsOne (kinds : List Kind) : Type 0 where
-  pub behind : List Kind
-  pub whole : IsNamelist (kinds ++ behind)
+  pub tail : List Kind
+  pub whole : IsNamelist (kinds ++ tail)
 
 -- the kinds of tokens, in order
 abbrev pub kinds_of : List Lexeme → List Kind
@@ -73,8 +73,8 @@ kinds_of tokens = map (λ token. token.kind) tokens
 pub record StopsAt (tokens : List Lexeme) (line : ℕ) : Type 0 where
   pub front : List Lexeme
   pub token : Lexeme
-  pub behind : List Lexeme
-  pub parts : tokens ≡ front ++ token ∷ behind
+  pub tail : List Lexeme
+  pub parts : tokens ≡ front ++ token ∷ tail
   pub before : BeginsOne (kinds_of front)
   pub wrong : ¬ BeginsOne (kinds_of (front ++ token ∷ []))
   pub there : token.line ≡ line

@@ -1,5 +1,6 @@
 pub mod Tokens
 pub mod Syntax
+pub mod Groups
 pub mod Table
 pub mod Values
 pub mod Numbers

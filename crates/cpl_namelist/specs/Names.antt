@@ -2,19 +2,21 @@
 use Rattle.std.specs.Prelude.{ℕ, ◌+◌, ◌*◌, ◌/◌, ◌%◌, ℤ, pos, List, [], ◌∷◌, map, ◌&&◌, not, nat_lt, nat_le, ◌==◌, if◌then◌else◌, Option, Some, None, Result, Ok, Err}
 use Rattle.std.specs.List.{range_with_len}
 use Rattle.cpl_fixed.specs.declared.Rates.{Rates}
+use Rattle.cpl_fixed.specs.declared.limits.TheConstants.{MOST_FAST_STEPS, MOST_OCEAN_STEPS, MOST_STEPS}
+use Rattle.cpl_fixed.specs.Results.{◌>>=◌}
 use Rattle.cpl_namelist.specs.declared.fault.NamesError.{NamesError}
 use Rattle.cpl_namelist.specs.declared.fault.NamesError.TheVariants as fault
 use Rattle.cpl_namelist.specs.declared.fault.StepFault.{StepFault}
 use Rattle.cpl_namelist.specs.declared.fault.StepFault.TheVariants as step
 use Rattle.cpl_namelist.specs.declared.fault.Required.{Required}
 use Rattle.cpl_namelist.specs.declared.fault.Required.TheVariants as required
-use Rattle.cpl_namelist.specs.declared.syntax.Place.TheVariants.{Outside}
+use Rattle.cpl_namelist.specs.declared.syntax.State.TheVariants.{Outside}
 use Rattle.cpl_namelist.specs.declared.names.Names.{Names}
-use Rattle.cpl_namelist.specs.declared.names.Steps.{Steps}
-use Rattle.cpl_namelist.specs.declared.table.TheConstants as table
+use Rattle.cpl_namelist.specs.declared.names.StepCounts.{StepCounts}
+use Rattle.cpl_namelist.specs.declared.places.TheConstants as places
 use Rattle.cpl_namelist.specs.Tokens.{tokens, last_line}
 use Rattle.cpl_namelist.specs.Syntax.{syntax_fault}
-use Rattle.cpl_namelist.specs.Settings.{◌>>=◌, Choices, is_given, number, nothing, judged}
+use Rattle.cpl_namelist.specs.Settings.{Choices, is_given, number, nothing, judged}
 
 -- the first so many numbers of the name at this place
 unfoldable pub signed_numbers : Choices → ℕ → ℕ → List ℤ
@@ -31,22 +33,22 @@ layout_of chosen place = (number chosen place 0, number chosen place 1)
 -- the rates, each from the name that it is called by
 unfoldable pub rates_of : Choices → Rates
 rates_of chosen = record {
-  ca = signed chosen table.CA;
-  kh = signed chosen table.KH;
-  ke = signed chosen table.KE;
-  hs = signed chosen table.HS;
-  ko = signed chosen table.KO;
-  rc = signed chosen table.RC;
-  month = signed_numbers chosen table.MONTH 12;
-  cl = signed chosen table.CL;
-  cap = signed chosen table.CAP;
-  land_albedo = signed chosen table.LAND_ALBEDO;
-  h0 = signed chosen table.H0;
-  bounds = signed_numbers chosen table.BOUNDS 4;
-  ice_albedo = signed chosen table.ICE_ALBEDO;
-  water_albedo = signed chosen table.WATER_ALBEDO;
-  slope = number chosen table.SLOPE 0;
-  mix = number chosen table.MIX 0;
+  ca = signed chosen places.CA;
+  kh = signed chosen places.KH;
+  ke = signed chosen places.KE;
+  hs = signed chosen places.HS;
+  ko = signed chosen places.KO;
+  rc = signed chosen places.RC;
+  month = signed_numbers chosen places.MONTH 12;
+  cl = signed chosen places.CL;
+  cap = signed chosen places.CAP;
+  land_albedo = signed chosen places.LAND_ALBEDO;
+  h0 = signed chosen places.H0;
+  bounds = signed_numbers chosen places.BOUNDS 4;
+  ice_albedo = signed chosen places.ICE_ALBEDO;
+  water_albedo = signed chosen places.WATER_ALBEDO;
+  slope = number chosen places.SLOPE 0;
+  mix = number chosen places.MIX 0;
 }
 
 -- ---- steps
@@ -65,28 +67,28 @@ abbrev pub at_most : StepFault → ℕ → ℕ → Result ℕ NamesError
 at_most step limit n = if nat_le n limit then Ok n else Err (fault.Step step)
 
 -- the counts of steps, or the first rule that they break
-abbrev pub steps_of : ℕ → ℕ → ℕ → ℕ → Result Steps NamesError
+abbrev pub steps_of : ℕ → ℕ → ℕ → ℕ → Result StepCounts NamesError
 steps_of atmos cpld ocean run = do
   fast ← need step.Atmos (divided atmos cpld)
   slow ← need step.Ocean (divided ocean cpld)
   count ← need step.Run (divided cpld run)
-  few ← at_most step.FastCount 1000 fast
-  some ← at_most step.OceanCount 100 slow
-  steps ← at_most step.Count 10000 count
+  few ← at_most step.FastCount MOST_FAST_STEPS fast
+  some ← at_most step.OceanCount MOST_OCEAN_STEPS slow
+  steps ← at_most step.Count MOST_STEPS count
   Ok (record { fast = few; ocean = some; count = steps })
 
 -- the seconds of the run
 abbrev pub run_length : Choices → ℕ
 run_length chosen =
-    86400 * number chosen table.DAYS 0 + 3600 * number chosen table.HOURS 0 + 60 * number chosen table.MINUTES 0 + number chosen table.SECONDS 0
+    86400 * number chosen places.DAYS 0 + 3600 * number chosen places.HOURS 0 + 60 * number chosen places.MINUTES 0 + number chosen places.SECONDS 0
 
 -- ---- the whole
 
 -- the names without a default, in the order of the table
 abbrev pub required_names : List (ℕ × Required)
 required_names =
-    (table.CURRENT_DATE, required.CurrentDate) ∷ (table.CALENDAR, required.Calendar)
-    ∷ (table.DT_ATMOS, required.DtAtmos) ∷ (table.DT_CPLD, required.DtCpld) ∷ (table.DT_OCEAN, required.DtOcean) ∷ []
+    (places.CURRENT_DATE, required.CurrentDate) ∷ (places.CALENDAR, required.Calendar)
+    ∷ (places.DT_ATMOS, required.DtAtmos) ∷ (places.DT_CPLD, required.DtCpld) ∷ (places.DT_OCEAN, required.DtOcean) ∷ []
 
 -- the first of them that is not given
 abbrev pub first_missing : Choices → List (ℕ × Required) → Option Required
@@ -103,14 +105,14 @@ unless_missing None names = names
 unless_missing (Some required) names = Err (fault.Missing required)
 
 -- what was given, or else the defaults
-abbrev pub names_with : Choices → Steps → Names
+abbrev pub names_with : Choices → StepCounts → Names
 names_with chosen steps = record {
-  start = signed_numbers chosen table.CURRENT_DATE 6;
+  start = signed_numbers chosen places.CURRENT_DATE 6;
   fast = steps.fast;
   ocean_steps = steps.ocean;
   steps = steps.count;
-  dt = signed chosen table.DT_CPLD;
-  layouts = layout_of chosen table.ATMOS_LAYOUT ∷ layout_of chosen table.LAND_LAYOUT ∷ layout_of chosen table.ICE_LAYOUT ∷ layout_of chosen table.OCEAN_LAYOUT ∷ [];
+  dt = signed chosen places.DT_CPLD;
+  layouts = layout_of chosen places.ATMOS_LAYOUT ∷ layout_of chosen places.LAND_LAYOUT ∷ layout_of chosen places.ICE_LAYOUT ∷ layout_of chosen places.OCEAN_LAYOUT ∷ [];
   rates = rates_of chosen;
 }
 
@@ -118,7 +120,7 @@ names_with chosen steps = record {
 unfoldable pub names_of : Choices → Result Names NamesError
 names_of chosen =
     unless_missing (missing chosen)
-    (steps_of (number chosen table.DT_ATMOS 0) (number chosen table.DT_CPLD 0) (number chosen table.DT_OCEAN 0) (run_length chosen)
+    (steps_of (number chosen places.DT_ATMOS 0) (number chosen places.DT_CPLD 0) (number chosen places.DT_OCEAN 0) (run_length chosen)
     >>= λ steps. Ok (names_with chosen steps))
 
 -- the fault of the order of tokens comes first

@@ -7,12 +7,12 @@ use Rattle.cpl_namelist.specs.declared.table.Holds.{Holds}
 use Rattle.cpl_namelist.specs.declared.table.Holds.TheVariants.{Moment}
 use Rattle.cpl_namelist.specs.declared.table.Row.{Row}
 use Rattle.cpl_namelist.specs.declared.numbers.Numbers.{Numbers}
-use Rattle.cpl_namelist.specs.declared.numbers.Step.{Step}
-use Rattle.cpl_namelist.specs.declared.numbers.Step.TheVariants.{Ends, Goes, Fails}
+use Rattle.cpl_namelist.specs.declared.numbers.Next.{Next}
+use Rattle.cpl_namelist.specs.declared.numbers.Next.TheVariants.{End, More, Wrong}
 use Rattle.cpl_namelist.specs.Tokens.{Lexeme}
 use Rattle.cpl_namelist.specs.Values.{value}
 
--- numbers in order, without the places behind them
+-- numbers in order, without the places after them
 abbrev pub listed : Numbers → List ℕ
 listed numbers = take numbers.count numbers.places
 
@@ -20,12 +20,12 @@ listed numbers = take numbers.count numbers.places
 abbrev pub with_front : List ℕ → Option (List ℕ) → Option (List ℕ)
 with_front front more = option_map (λ ns. front ++ ns) more
 
--- a value's numbers and those behind it
+-- a value's numbers and those after it
 abbrev pub value_and : Option (ℕ × ℕ) → Option (List ℕ) → Option (List ℕ)
 value_and None more = None
 value_and (Some v) more = with_front (replicate v.0 v.1) more
 
--- the numbers of a token among values and those behind it: a name and / end the values
+-- the numbers of a token among values and those after it: a name and / end the values
 abbrev pub number_front : Kind → Option (ℕ × ℕ) → Option (List ℕ) → Option (List ℕ)
 number_front Word v more = Some []
 number_front Slash v more = Some []
@@ -67,11 +67,11 @@ kept test (Some ns) = if test ns then Some ns else None
 unfoldable pub fitting : Row → List Lexeme → Option (List ℕ)
 fitting row tokens = kept (suits row) (numbers row tokens)
 
--- what a step among the values says of all numbers, whatever stands behind
-abbrev pub StepIs : Row → Numbers → Kind → List ℕ → Step → Type 0
-StepIs row front kind text Ends = (more : Option (List ℕ)) → number_front kind (value row kind text) more ≡ Some []
-StepIs row front kind text (Goes next) =
+-- what a step among the values says of all numbers, whatever follows
+abbrev pub LeadsTo : Row → Numbers → Kind → List ℕ → Next → Type 0
+LeadsTo row front kind text End = (more : Option (List ℕ)) → number_front kind (value row kind text) more ≡ Some []
+LeadsTo row front kind text (More next) =
     (next.count ≤ row.count)
     × ((more : Option (List ℕ)) → with_front (listed front) (number_front kind (value row kind text) more) ≡ with_front (listed next) more)
-StepIs row front kind text Fails =
+LeadsTo row front kind text Wrong =
     (more : Option (List ℕ)) → kept (suits row) (with_front (listed front) (number_front kind (value row kind text) more)) ≡ None

@@ -4,21 +4,19 @@ use Rattle.cpl_namelist.specs.declared.fault.NamesError.{NamesError}
 use Rattle.cpl_namelist.specs.declared.fault.NamesError.TheVariants as fault
 use Rattle.cpl_namelist.specs.declared.token.Kind.{Kind}
 use Rattle.cpl_namelist.specs.declared.token.Kind.TheVariants as kind
+use Rattle.cpl_namelist.specs.declared.group.Group.{Group}
+use Rattle.cpl_namelist.specs.declared.group.Group.TheVariants.{Coupler}
 use Rattle.cpl_namelist.specs.declared.table.Row.{Row}
 use Rattle.cpl_namelist.specs.declared.settings.Settings.{Settings}
+use Rattle.cpl_fixed.specs.Results.{◌>>=◌}
 use Rattle.cpl_namelist.specs.Tokens.{Lexeme}
-use Rattle.cpl_namelist.specs.Table.{group_named, name_in_group, row_at}
+use Rattle.cpl_namelist.specs.Groups.{group_named, group_place}
+use Rattle.cpl_namelist.specs.Table.{name_in_group, row_at}
 use Rattle.cpl_namelist.specs.Numbers.{listed, fitting}
-
--- what a step that didn't fail gave goes into the next
-infixl 10 ◌>>=◌
-abbrev pub ◌>>=◌ : {A B : Type 0} → Result A NamesError → (A → Result B NamesError) → Result B NamesError
-(Ok x) >>= f = f x
-(Err e) >>= f = Err e
 
 -- the open group, whether each group came so far, and the numbers of each name that was given so far
 pub record Choices : Type 0 where
-  pub group : ℕ
+  pub group : Group
   pub groups : List Bool
   pub given : List (Option (List ℕ))
 
@@ -28,7 +26,7 @@ choices settings = record { group = settings.group; groups = settings.groups; gi
 
 -- before the first heading
 abbrev pub nothing : Choices
-nothing = record { group = 0; groups = replicate 6 false; given = replicate 31 None }
+nothing = record { group = Coupler; groups = replicate 6 false; given = replicate 31 None }
 
 -- the numbers that the name at this place was given
 abbrev pub given_at : Choices → ℕ → Option (List ℕ)
@@ -38,14 +36,14 @@ given_at chosen place = slice_index_or chosen.given place None
 abbrev pub is_given : Choices → ℕ → Bool
 is_given chosen place = is_some (given_at chosen place)
 
--- the group at this place is opened
-abbrev pub opened : Choices → ℕ → ℕ → Result Choices NamesError
+-- the group is opened
+abbrev pub opened : Choices → ℕ → Group → Result Choices NamesError
 opened chosen line group =
-    if slice_index_or chosen.groups group false then Err (fault.Twice line)
-    else Ok (record { group = group; groups = slice_set chosen.groups group true; given = chosen.given })
+    if slice_index_or chosen.groups (group_place group) false then Err (fault.Twice line)
+    else Ok (record { group = group; groups = slice_set chosen.groups (group_place group) true; given = chosen.given })
 
 -- a heading with the group that it names
-abbrev pub opened_named : Choices → ℕ → Option ℕ → Result Choices NamesError
+abbrev pub opened_named : Choices → ℕ → Option Group → Result Choices NamesError
 opened_named chosen line None = Err (fault.UnknownGroup line)
 opened_named chosen line (Some group) = opened chosen line group
 
@@ -64,7 +62,7 @@ assigned chosen line others None = Err (fault.UnknownName line)
 assigned chosen line others (Some place) =
     if is_given chosen place then Err (fault.Twice line) else set_to chosen line place (fitting (row_at place) others)
 
--- an assignment to the name that this token is, with what stands behind it
+-- an assignment to the name that this token is, with the rest
 abbrev pub assignment : Choices → Lexeme → List Lexeme → Result Choices NamesError
 assignment chosen token others = assigned chosen token.line others (name_in_group chosen.group token.text)
 

@@ -2,8 +2,8 @@
 use Rattle.std.specs.Prelude.{ℕ, List, [], ◌∷◌, Bool, true, false, Option, Some, None}
 use Rattle.cpl_namelist.specs.declared.token.Kind.{Kind}
 use Rattle.cpl_namelist.specs.declared.token.Kind.TheVariants.{Group, Word, Equals, Comma, Slash, Integer, Repeat, Text, Logical}
-use Rattle.cpl_namelist.specs.declared.syntax.Place.{Place}
-use Rattle.cpl_namelist.specs.declared.syntax.Place.TheVariants.{Outside, Inside, Named, Assigned, Valued, Separated}
+use Rattle.cpl_namelist.specs.declared.syntax.State.{State}
+use Rattle.cpl_namelist.specs.declared.syntax.State.TheVariants.{Outside, Inside, Named, Assigned, Valued, Separated}
 use Rattle.cpl_namelist.specs.Tokens.{Lexeme}
 
 -- an integer, a repeat, a text or a logical
@@ -14,14 +14,14 @@ is_value Text = true
 is_value Logical = true
 is_value _ = false
 
--- behind a value, with its comma or without, or at the beginning of a group
-abbrev pub in_group : Kind → Option Place
+-- after a value, with its comma or without, or at the beginning of a group
+abbrev pub in_group : Kind → Option State
 in_group Word = Some Named
 in_group Slash = Some Outside
 in_group _ = None
 
 -- a value, or else what another token leads to
-abbrev pub value_or : Option Place → Kind → Option Place
+abbrev pub value_or : Option State → Kind → Option State
 value_or other Integer = Some Valued
 value_or other Repeat = Some Valued
 value_or other Text = Some Valued
@@ -29,7 +29,7 @@ value_or other Logical = Some Valued
 value_or other _ = other
 
 -- where a token leads
-abbrev pub follow : Place → Kind → Option Place
+abbrev pub follow : State → Kind → Option State
 follow Outside Group = Some Inside
 follow Inside kind = in_group kind
 follow Named Equals = Some Assigned
@@ -40,16 +40,16 @@ follow Separated kind = value_or (in_group kind) kind
 follow _ _ = None
 
 -- the end of the text
-abbrev pub end_fault : ℕ → Place → Option ℕ
+abbrev pub end_fault : ℕ → State → Option ℕ
 end_fault last Outside = None
 end_fault last _ = Some last
 
--- the fault behind a token on this line, which is itself the fault where it leads nowhere
-abbrev pub fault_behind : ℕ → Option Place → (Place → Option ℕ) → Option ℕ
-fault_behind line None next = Some line
-fault_behind line (Some place) next = next place
+-- the fault after a token on this line, which is itself the fault where it leads nowhere
+abbrev pub fault_after : ℕ → Option State → (State → Option ℕ) → Option ℕ
+fault_after line None next = Some line
+fault_after line (Some place) next = next place
 
 -- the line of the first token that can't stand where it does, or the last line where the text ends too early
-unfoldable pub syntax_fault : ℕ → Place → List Lexeme → Option ℕ
+unfoldable pub syntax_fault : ℕ → State → List Lexeme → Option ℕ
 syntax_fault last place [] = end_fault last place
-syntax_fault last place (token ∷ others) = fault_behind token.line (follow place token.kind) (λ next. syntax_fault last next others)
+syntax_fault last place (token ∷ others) = fault_after token.line (follow place token.kind) (λ next. syntax_fault last next others)

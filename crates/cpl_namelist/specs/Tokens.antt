@@ -32,14 +32,14 @@ abbrev pub word_len : List ℕ → ℕ
 word_len bytes = if begins is_ascii_alphabetic bytes then front_len is_word_byte bytes else 0
 
 -- a mark in front of what is so long, and nothing where that is not there
-abbrev pub behind_mark : ℕ → ℕ
-behind_mark zero = 0
-behind_mark (suc len) = 1 + suc len
+abbrev pub after_mark : ℕ → ℕ
+after_mark zero = 0
+after_mark (suc len) = 1 + suc len
 
 -- & directly followed by a word
 abbrev pub group_len : List ℕ → ℕ
 group_len [] = 0
-group_len (byte ∷ rest) = if byte == 38 then behind_mark (word_len rest) else 0
+group_len (byte ∷ rest) = if byte == 38 then after_mark (word_len rest) else 0
 
 -- how many digits are in front
 abbrev pub digits_len : List ℕ → ℕ
@@ -48,17 +48,17 @@ digits_len bytes = front_len is_ascii_digit bytes
 -- an optional + or -, then digits
 abbrev pub integer_len : List ℕ → ℕ
 integer_len [] = 0
-integer_len (byte ∷ rest) = if byte == 43 || byte == 45 then behind_mark (digits_len rest) else digits_len (byte ∷ rest)
+integer_len (byte ∷ rest) = if byte == 43 || byte == 45 then after_mark (digits_len rest) else digits_len (byte ∷ rest)
 
 -- what stands at the front, and 0 where the rest does not follow it
 abbrev pub both : ℕ → ℕ → ℕ
 both front zero = 0
 both front (suc rest) = front + suc rest
 
--- an integer behind *
+-- an integer after *
 abbrev pub times_len : List ℕ → ℕ
 times_len [] = 0
-times_len (byte ∷ rest) = if byte == 42 then behind_mark (integer_len rest) else 0
+times_len (byte ∷ rest) = if byte == 42 then after_mark (integer_len rest) else 0
 
 -- digits, *, an integer, with nothing between
 abbrev pub repeat_len : List ℕ → ℕ
@@ -121,7 +121,7 @@ is_gap byte = byte == 10 || is_blank byte || byte == 33
 abbrev pub comment_len : List ℕ → ℕ
 comment_len bytes = front_len (λ byte. not (byte == 10)) bytes
 
--- the line and what is left of the text, behind a separator or a comment in front; a comment holds no line feed
+-- the line and what is left of the text, after a separator or a comment in front; a comment holds no line feed
 abbrev pub past_gap : ℕ → List ℕ → Option (ℕ × List ℕ)
 past_gap line [] = None
 past_gap line (byte ∷ rest) =

@@ -1,16 +1,12 @@
 -- What the values of a name stand for.
-use Rattle.std.specs.Prelude.{ℕ, zero, suc, ◌+◌, ◌-◌, ◌*◌, List, [], ◌∷◌, length, take, drop, codes, Bool, ◌&&◌, nat_le, ◌==◌, if◌then◌else◌, Option, Some, None}
+use Rattle.std.specs.Prelude.{ℕ, zero, suc, ◌+◌, ◌-◌, List, [], ◌∷◌, length, take, drop, codes, Bool, ◌&&◌, nat_le, ◌==◌, if◌then◌else◌, Option, Some, None}
+use Rattle.cpl_fixed.specs.Decimals.{value_of}
 use Rattle.cpl_namelist.specs.declared.token.Kind.{Kind}
 use Rattle.cpl_namelist.specs.declared.token.Kind.TheVariants as kind
 use Rattle.cpl_namelist.specs.declared.table.Holds.{Holds}
 use Rattle.cpl_namelist.specs.declared.table.Holds.TheVariants as holds
 use Rattle.cpl_namelist.specs.declared.table.Row.{Row}
 use Rattle.cpl_namelist.specs.Tokens.{same_word, digits_len}
-
--- the number that digits behind n stand for
-abbrev pub magnitude : ℕ → List ℕ → ℕ
-magnitude n [] = n
-magnitude n (digit ∷ digits) = magnitude (10 * n + (digit - 48)) digits
 
 -- a number, where it is in the range
 abbrev pub in_range : ℕ → ℕ → Option ℕ → Option ℕ
@@ -26,8 +22,8 @@ only_zero (suc n) = None
 abbrev pub natural : List ℕ → Option ℕ
 natural [] = Some 0
 natural (byte ∷ digits) =
-    if byte == 45 then only_zero (magnitude 0 digits)
-    else (if byte == 43 then Some (magnitude 0 digits) else Some (magnitude 0 (byte ∷ digits)))
+    if byte == 45 then only_zero (value_of digits)
+    else (if byte == 43 then Some (value_of digits) else Some (value_of (byte ∷ digits)))
 
 -- so many times a number, where both are there
 abbrev pub times_number : Option ℕ → Option ℕ → Option (ℕ × ℕ)

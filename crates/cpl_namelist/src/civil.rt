@@ -15,10 +15,10 @@ pub struct Civil {
     pub day: i64,
 }
 
-/// The greatest number of days from one date of `jiff` to another.
+// The greatest number of days from one date of `jiff` to another.
 const MOST_DAYS: u64 = 7_304_483;
 
-/// A part of a start, which is never negative.
+// A part of a start, which is never negative.
 fn part(start: &[i64; 6], k: usize) -> u64
     requires { k < 6 }
     ensures { result ≡ part start.now k }
@@ -26,7 +26,7 @@ fn part(start: &[i64; 6], k: usize) -> u64
     start[k].unsigned_abs()
 }
 
-/// The seconds since midnight.
+// The seconds since midnight.
 fn clock(hour: u64, minute: u64, second: u64) -> u64
     requires hour { hour < 24 }
     requires minute { minute < 60 }
@@ -37,7 +37,7 @@ fn clock(hour: u64, minute: u64, second: u64) -> u64
     3_600 * hour + 60 * minute + second
 }
 
-/// The whole days from the start's date to the moment so many seconds after the start.
+// The whole days from the start's date to the moment so many seconds after the start.
 fn days_after(start: &[i64; 6], seconds: u64) -> u64
     requires start { IsStart start.now }
     requires small { seconds < 2 ^ 63 }
@@ -56,7 +56,7 @@ fn date_of_parts(year: u64, month: u64, day: u64) -> Date
     date(year as i16, month as i8, day as i8)
 }
 
-/// The date so many days later, where it is of year 9999 at most.
+// The date so many days later, where it is of year 9999 at most.
 fn days_later(first: Date, days: u64) -> Option<Date>
     ensures { IsDaysLater first days result }
 {
@@ -69,7 +69,7 @@ fn days_later(first: Date, days: u64) -> Option<Date>
     }
 }
 
-/// The date of the moment so many seconds after the start, where it is of year 9999 at most.
+// The date of the moment so many seconds after the start, where it is of year 9999 at most.
 fn date_after(start: &[i64; 6], seconds: u64) -> Option<Date>
     requires start { IsStart start.now }
     requires small { seconds < 2 ^ 63 }

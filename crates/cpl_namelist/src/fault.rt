@@ -85,7 +85,7 @@ pub enum NamesError {
     /// The run would end this many seconds after its start, past the year 9999. Reading a namelist never answers this.
     #[error("Date {0}")]
     Date(i64),
-    /// There was no memory. Reading a namelist never answers this.
+    /// Out of memory. Reading a namelist never answers this.
     #[error("Memory")]
     Memory,
 }

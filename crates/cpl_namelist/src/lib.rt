@@ -3,8 +3,10 @@
 
 mod civil;
 mod fault;
+mod group;
 mod names;
 mod numbers;
+mod places;
 mod settings;
 mod syntax;
 mod table;
@@ -14,3 +16,4 @@ mod value;
 pub use civil::Civil;
 pub use fault::{NamesError, Required, StepFault};
 pub use names::Names;
+pub use table::table_law;

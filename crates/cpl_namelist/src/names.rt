@@ -5,13 +5,13 @@ ghost use Rattle.std.specs.List.{range_with_len};
 ghost use Rattle.cpl_namelist.specs.Settings.{choices, number};
 ghost use Rattle.cpl_namelist.specs.Names.{signed_numbers, divided, need, at_most, steps_of, rates_of, layout_of, run_length, missing, names_with, names_of, reading};
 ghost use Rattle.cpl_namelist.specs.Grammar.{HasOrder};
-ghost use Rattle.cpl_namelist.specs.Ranges.{AreNames};
+ghost use Rattle.cpl_namelist.specs.Ranges.{AreNames, HasTimes};
 
 use crate::fault::{NamesError, Required, StepFault};
+use crate::places::*;
 use crate::settings::{Settings, settings_of};
 use crate::syntax::syntax_fault;
-use crate::table::*;
-use cpl_fixed::Rates;
+use cpl_fixed::{MOST_FAST_STEPS, MOST_OCEAN_STEPS, MOST_STEPS, Rates};
 
 /// What a namelist says of a run. `fast`, `ocean_steps` and `steps` are the counts M, Q and N.
 #[derive(Clone, Copy, Debug, PartialEq, Eq)]
@@ -33,15 +33,15 @@ pub struct Names {
     pub rates: Rates,
 }
 
-/// How many steps there are: of the air and of the ocean in a coupling step, and coupling steps.
+// How many steps there are: of the air and of the ocean in a coupling step, and coupling steps.
 #[derive(Clone, Copy)]
-struct Steps {
+struct StepCounts {
     fast: u32,
     ocean: u32,
     count: u32,
 }
 
-/// How often a number goes into another that it divides; the fault where it doesn't.
+// How often a number goes into another that it divides; the fault where it doesn't.
 fn divided(step: StepFault, part: u32, whole: u64) -> Result<u64, NamesError>
     ensures { result ≡ need step (divided part whole) }
 {
@@ -62,21 +62,21 @@ fn at_most(step: StepFault, limit: u32, count: u64) -> Result<u32, NamesError>
     }
 }
 
-/// The counts of steps, from the seconds of each and of the run.
-fn steps_of(atmos: u32, cpld: u32, ocean: u32, run: u64) -> Result<Steps, NamesError>
+// The counts of steps, from the seconds of each and of the run.
+fn steps_of(atmos: u32, cpld: u32, ocean: u32, run: u64) -> Result<StepCounts, NamesError>
     ensures { result ≡ steps_of atmos cpld ocean run }
 {
     let fast = divided(StepFault::Atmos, atmos, u64::from(cpld))?;
     let ocean = divided(StepFault::Ocean, ocean, u64::from(cpld))?;
     let count = divided(StepFault::Run, cpld, run)?;
-    let fast = at_most(StepFault::FastCount, 1_000, fast)?;
-    let ocean = at_most(StepFault::OceanCount, 100, ocean)?;
-    let count = at_most(StepFault::Count, 10_000, count)?;
-    Ok(Steps { fast, ocean, count })
+    let fast = at_most(StepFault::FastCount, MOST_FAST_STEPS, fast)?;
+    let ocean = at_most(StepFault::OceanCount, MOST_OCEAN_STEPS, ocean)?;
+    let count = at_most(StepFault::Count, MOST_STEPS, count)?;
+    Ok(StepCounts { fast, ocean, count })
 }
 
 impl Settings {
-    /// The numbers of the name at this place, as many as it has.
+    // The numbers of the name at this place, as many as it has.
     fn signed_numbers<const N: usize>(&self, place: usize) -> [i64; N]
         requires { place < 31 }
         ensures { result ≡ signed_numbers (choices self.now) place N }
@@ -88,7 +88,7 @@ impl Settings {
         numbers
     }
 
-    /// The number of the name at this place.
+    // The number of the name at this place.
     fn signed(&self, place: usize) -> i64
         requires { place < 31 }
         ensures value { result ≡ pos (number (choices self.now) place 0) }
@@ -127,7 +127,7 @@ impl Settings {
         }
     }
 
-    /// The first name without a default that isn't given.
+    // The first name without a default that isn't given.
     fn missing(&self) -> Option<Required>
         ensures { result ≡ missing (choices self.now) }
     {
@@ -146,7 +146,7 @@ impl Settings {
         }
     }
 
-    /// The seconds of the run.
+    // The seconds of the run.
     fn run_length(&self) -> u64
         ensures { result ≡ run_length (choices self.now) }
     {
@@ -156,7 +156,7 @@ impl Settings {
             + u64::from(self.number(SECONDS, 0))
     }
 
-    fn names_with(&self, steps: Steps) -> Names
+    fn names_with(&self, steps: StepCounts) -> Names
         ensures { result ≡ names_with (choices self.now) steps }
     {
         Names {
@@ -184,10 +184,8 @@ impl Settings {
         let atmos = self.number(DT_ATMOS, 0);
         let cpld = self.number(DT_CPLD, 0);
         let ocean = self.number(DT_OCEAN, 0);
-        match steps_of(atmos, cpld, ocean, self.run_length()) {
-            Ok(steps) => Ok(self.names_with(steps)),
-            Err(fault) => Err(fault),
-        }
+        let steps = steps_of(atmos, cpld, ocean, self.run_length())?;
+        Ok(self.names_with(steps))
     }
 }
 
@@ -199,15 +197,13 @@ impl Names {
         ensures exact { result ≡ reading bytes.now }
         // `Syntax` comes exactly where the tokens are no namelist, with the line of the first that can't follow.
         ensures syntax { HasOrder bytes.now result }
-        // What is read is in its ranges.
+        // What is read is in its ranges, and the steps fill the time that the text gives.
         ensures ranges { IfOk result AreNames }
+        ensures times { IfOk result (HasTimes bytes.now) }
     {
         if let Some(line) = syntax_fault(bytes) {
             return Err(NamesError::Syntax(line));
         }
-        match settings_of(bytes) {
-            Ok(settings) => settings.names(),
-            Err(fault) => Err(fault),
-        }
+        settings_of(bytes)?.names()
     }
 }

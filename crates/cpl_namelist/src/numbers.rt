@@ -1,7 +1,7 @@
 // The numbers that the values of a name stand for.
 ghost use Rattle.std.specs.Prelude.{◌≡◌, ◌+◌, ◌≤◌, slice_index, ◌<◌, ◌^◌, ◌++◌, length, replicate, take, Some, option_map};
 ghost use Rattle.cpl_namelist.specs.Tokens.{tokens_from};
-ghost use Rattle.cpl_namelist.specs.Numbers.{listed, kept, suits, is_date, is_moment, fitting, StepIs};
+ghost use Rattle.cpl_namelist.specs.Numbers.{listed, kept, suits, is_date, is_moment, fitting, LeadsTo};
 
 use crate::table::{Holds, Row};
 use crate::token::{Cursor, Kind, next_token};
@@ -27,7 +27,7 @@ impl Numbers {
         }
     }
 
-    /// These numbers, and then so many times another.
+    // These numbers, and then so many times another.
     fn with(self, times: u32, number: u32) -> Numbers
         requires { self.count + times ≤ 12 }
         ensures value { listed result ≡ listed self ++ replicate times number }
@@ -42,29 +42,29 @@ impl Numbers {
     }
 }
 
-/// Where a token leads among the values of a name.
-enum Step {
-    /// The values end before it.
-    Ends,
-    /// The numbers so far.
-    Goes(Numbers),
-    /// The values are wrong.
-    Fails,
+// Where a token leads among the values of a name.
+enum Next {
+    // The values end before it.
+    End,
+    // The numbers so far.
+    More(Numbers),
+    // The values are wrong.
+    Wrong,
 }
 
-fn step_over(row: Row, numbers: Numbers, kind: Kind, text: &[u8]) -> Step
+fn next_after(row: Row, numbers: Numbers, kind: Kind, text: &[u8]) -> Next
     requires small { row.count ≤ 12 }
     requires room { numbers.count ≤ row.count }
-    ensures { StepIs row numbers kind text.now result }
+    ensures { LeadsTo row numbers kind text.now result }
 {
     match kind {
-        Kind::Word | Kind::Slash => Step::Ends,
-        Kind::Equals | Kind::Comma => Step::Goes(numbers),
+        Kind::Word | Kind::Slash => Next::End,
+        Kind::Equals | Kind::Comma => Next::More(numbers),
         _ => match value(row, kind, text) {
             Some((times, number)) if times as usize <= row.count - numbers.count => {
-                Step::Goes(numbers.with(times, number))
+                Next::More(numbers.with(times, number))
             }
-            _ => Step::Fails,
+            _ => Next::Wrong,
         },
     }
 }
@@ -86,7 +86,7 @@ fn is_moment(numbers: Numbers) -> bool
     is_date(year, month, day) && hour <= 23 && minute <= 59 && second <= 59
 }
 
-/// Whether these are as many as the row holds, and a moment where it holds one.
+// Whether these are as many as the row holds, and a moment where it holds one.
 fn suits(row: Row, numbers: Numbers) -> bool
     requires { numbers.count ≤ 12 }
     ensures { result ≡ suits row (listed numbers) }
@@ -112,17 +112,17 @@ pub fn numbers_in(row: Row, line: u32, bytes: &[u8]) -> Option<Numbers>
     };
     let mut cursor = Cursor { line, rest: bytes };
     while let Some((token, after)) = next_token(cursor.line, cursor.rest) {
-        match step_over(row, numbers, token.kind, token.text) {
-            Step::Ends => return finished(row, numbers),
-            Step::Goes(next) => numbers = next,
-            Step::Fails => return None,
+        match next_after(row, numbers, token.kind, token.text) {
+            Next::End => return fitted(row, numbers),
+            Next::More(next) => numbers = next,
+            Next::Wrong => return None,
         }
         cursor = after;
     }
-    finished(row, numbers)
+    fitted(row, numbers)
 }
 
-fn finished(row: Row, numbers: Numbers) -> Option<Numbers>
+fn fitted(row: Row, numbers: Numbers) -> Option<Numbers>
     requires { numbers.count ≤ 12 }
     ensures { option_map listed result ≡ kept (suits row) (Some (listed numbers)) }
 {

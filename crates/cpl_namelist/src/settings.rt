@@ -5,20 +5,21 @@ ghost use Rattle.cpl_namelist.specs.Numbers.{listed};
 ghost use Rattle.cpl_namelist.specs.Settings.{choices, nothing, is_given, number, default_of, heading, assignment, token_judged, judged};
 
 use crate::fault::NamesError;
+use crate::group::{Group, group_named};
 use crate::numbers::{Numbers, numbers_in};
-use crate::table::{Row, group_named, name_in_group, row_at};
+use crate::table::{Row, name_in_group, row_at};
 use crate::token::{Cursor, Kind, Token, next_token};
 
 /// The group that is open, which groups came so far, and the numbers of the names that were given so far, by their
 /// places in the tables.
 #[derive(Drop)]
 pub struct Settings {
-    group: usize,
+    group: Group,
     groups: [bool; 6],
     given: [Option<Numbers>; 31],
 }
 
-/// A name without the mark in front.
+// A name without the mark in front.
 fn unmarked(text: &[u8]) -> &[u8]
     ensures { result.now ≡ drop 1 text.now }
 {
@@ -28,7 +29,7 @@ fn unmarked(text: &[u8]) -> &[u8]
     }
 }
 
-/// The default of a row.
+// The default of a row.
 fn default_of(row: Row) -> Numbers
     ensures { listed result ≡ default_of row }
 {
@@ -43,7 +44,7 @@ impl Settings {
         ensures { choices result ≡ nothing }
     {
         Settings {
-            group: 0,
+            group: Group::Coupler,
             groups: [false; 6],
             given: [None; 31],
         }
@@ -68,7 +69,7 @@ impl Settings {
         }
     }
 
-    /// Opens the group of a heading.
+    // Opens the group of a heading.
     fn open(&mut self, token: Token) -> Result<(), NamesError>
         ensures { MatchResult result
             (λ _. heading (choices self.old) (seen token.entry) ≡ Ok (choices self.new))
@@ -77,15 +78,15 @@ impl Settings {
         let Some(group) = group_named(unmarked(token.text)) else {
             return Err(NamesError::UnknownGroup(token.line));
         };
-        if self.groups[group] {
+        if self.groups[group.place()] {
             return Err(NamesError::Twice(token.line));
         }
         self.group = group;
-        self.groups[group] = true;
+        self.groups[group.place()] = true;
         Ok(())
     }
 
-    /// Takes the values behind a name of the open group.
+    // Takes the values after a name of the open group.
     fn assign(&mut self, token: Token, line: u32, rest: &[u8]) -> Result<(), NamesError>
         requires { line + length rest.now < 2 ^ 32 }
         ensures { MatchResult result
@@ -98,16 +99,14 @@ impl Settings {
         if self.is_given(place) {
             return Err(NamesError::Twice(token.line));
         }
-        match numbers_in(row_at(place), line, rest) {
-            Some(numbers) => {
-                self.given[place] = Some(numbers);
-                Ok(())
-            }
-            None => Err(NamesError::Value(token.line)),
-        }
+        let Some(numbers) = numbers_in(row_at(place), line, rest) else {
+            return Err(NamesError::Value(token.line));
+        };
+        self.given[place] = Some(numbers);
+        Ok(())
     }
 
-    /// Takes a token, with what stands behind it.
+    // Takes a token, with the rest.
     fn take(&mut self, token: Token, line: u32, rest: &[u8]) -> Result<(), NamesError>
         requires { line + length rest.now < 2 ^ 32 }
         ensures { MatchResult result
@@ -135,9 +134,7 @@ pub fn settings_of(bytes: &[u8]) -> Result<Settings, NamesError>
         rest: bytes,
     };
     while let Some((token, after)) = next_token(cursor.line, cursor.rest) {
-        if let Err(fault) = settings.take(token, after.line, after.rest) {
-            return Err(fault);
-        }
+        settings.take(token, after.line, after.rest)?;
         cursor = after;
     }
     Ok(settings)

@@ -7,55 +7,55 @@ use crate::token::{Cursor, Kind, next_token};
 
 /// What the tokens so far leave open.
 #[derive(Clone, Copy, Debug, PartialEq, Eq)]
-pub enum Place {
+pub enum State {
     /// All groups are closed.
     Outside,
     /// In a group, before its first name.
     Inside,
-    /// Behind a name.
+    /// After a name.
     Named,
-    /// Behind `=`.
+    /// After `=`.
     Assigned,
-    /// Behind a value.
+    /// After a value.
     Valued,
-    /// Behind a value and its comma.
+    /// After a value and its comma.
     Separated,
 }
 
-/// Where a token leads, or nothing where it can't stand there.
-fn follow(place: Place, kind: Kind) -> Option<Place>
+// Where a token leads, or nothing where it can't stand there.
+fn follow(place: State, kind: Kind) -> Option<State>
     ensures { result ≡ follow place kind }
 {
     match kind {
         Kind::Group => match place {
-            Place::Outside => Some(Place::Inside),
+            State::Outside => Some(State::Inside),
             _ => None,
         },
         Kind::Word => match place {
-            Place::Inside | Place::Valued | Place::Separated => Some(Place::Named),
+            State::Inside | State::Valued | State::Separated => Some(State::Named),
             _ => None,
         },
         Kind::Slash => match place {
-            Place::Inside | Place::Valued | Place::Separated => Some(Place::Outside),
+            State::Inside | State::Valued | State::Separated => Some(State::Outside),
             _ => None,
         },
         Kind::Equals => match place {
-            Place::Named => Some(Place::Assigned),
+            State::Named => Some(State::Assigned),
             _ => None,
         },
         Kind::Integer | Kind::Repeat | Kind::Text | Kind::Logical => match place {
-            Place::Assigned | Place::Valued | Place::Separated => Some(Place::Valued),
+            State::Assigned | State::Valued | State::Separated => Some(State::Valued),
             _ => None,
         },
         Kind::Comma => match place {
-            Place::Valued => Some(Place::Separated),
+            State::Valued => Some(State::Separated),
             _ => None,
         },
         Kind::Stray => None,
     }
 }
 
-/// One more than the number of line feeds.
+// One more than the number of line feeds.
 fn last_line(bytes: &[u8]) -> u32
     requires { length bytes.now < 2 ^ 32 - 1 }
     ensures { result ≡ last_line bytes.now }
@@ -63,12 +63,12 @@ fn last_line(bytes: &[u8]) -> u32
     1 + bytes.iter().filter(|b| **b == b'\n').count() as u32
 }
 
-/// The last line, where the text ends before a group does.
-fn end_fault(last: u32, place: Place) -> Option<u32>
+// The last line, where the text ends before a group does.
+fn end_fault(last: u32, place: State) -> Option<u32>
     ensures { result ≡ end_fault last place }
 {
     match place {
-        Place::Outside => None,
+        State::Outside => None,
         _ => Some(last),
     }
 }
@@ -76,9 +76,9 @@ fn end_fault(last: u32, place: Place) -> Option<u32>
 /// The line of the first token that can't follow those before it, or the last line where the text ends too early.
 pub fn syntax_fault(bytes: &[u8]) -> Option<u32>
     requires { length bytes.now < 2 ^ 32 - 1 }
-    ensures { result ≡ syntax_fault (last_line bytes.now) Place.Outside (tokens bytes.now) }
+    ensures { result ≡ syntax_fault (last_line bytes.now) State.Outside (tokens bytes.now) }
 {
-    let mut place = Place::Outside;
+    let mut place = State::Outside;
     let mut cursor = Cursor {
         line: 1,
         rest: bytes,

@@ -1,7 +1,7 @@
 // The tokens of a namelist's text (after Fortran's namelist, in a profile defined by this project).
 ghost use Rattle.std.specs.Prelude.{◌≡◌, ◌+◌, ◌<◌, ◌≤◌, ◌^◌, false, max, length, take, Option, IfSome, option_map};
 ghost use Rattle.std.specs.Char.{is_ascii_alphabetic};
-ghost use Rattle.cpl_namelist.specs.Tokens.{begins, front_len, is_plain, times_len, behind_mark, is_word_byte, word_len, group_len, digits_len, integer_len, repeat_len, quoted_len, text_len, logical_len, same_word, form_or, form_of, is_gap, place, past_gap, comment_len, mark_of, NextIs, tokens_from};
+ghost use Rattle.cpl_namelist.specs.Tokens.{begins, front_len, is_plain, times_len, after_mark, is_word_byte, word_len, group_len, digits_len, integer_len, repeat_len, quoted_len, text_len, logical_len, same_word, form_or, form_of, is_gap, place, past_gap, comment_len, mark_of, NextIs, tokens_from};
 
 /// What a token is.
 #[derive(Clone, Copy, Debug, PartialEq, Eq)]
@@ -37,7 +37,7 @@ pub struct Cursor<'a> {
     pub rest: &'a [u8],
 }
 
-/// The kind of the token in front of a text, and how many bytes it takes.
+// The kind of the token in front of a text, and how many bytes it takes.
 #[derive(Clone, Copy)]
 struct Form {
     kind: Kind,
@@ -57,7 +57,7 @@ fn is_word_byte(byte: u8) -> bool
     byte.is_ascii_alphanumeric() || byte == b'_'
 }
 
-/// Whether the first byte is a letter.
+// Whether the first byte is a letter.
 fn begins_with_letter(bytes: &[u8]) -> bool
     ensures { result ≡ begins is_ascii_alphabetic bytes.now }
 {
@@ -67,7 +67,7 @@ fn begins_with_letter(bytes: &[u8]) -> bool
     }
 }
 
-/// How many bytes the word in front takes, 0 where there is none; so with the other forms.
+// How many bytes the word in front takes, 0 where there is none; so with the other forms.
 fn word_len(bytes: &[u8]) -> usize
     ensures value { result ≡ word_len bytes.now }
     ensures within { result ≤ length bytes.now }
@@ -90,15 +90,15 @@ fn group_len(bytes: &[u8]) -> usize
     ensures within { result ≤ length bytes.now }
 {
     match bytes {
-        [b'&', rest @ ..] => behind_mark(word_len(rest)),
+        [b'&', rest @ ..] => after_mark(word_len(rest)),
         _ => 0,
     }
 }
 
-/// The length with a mark in front, where what stands behind the mark is there.
-fn behind_mark(len: usize) -> usize
+// The length with a mark in front, where the rest is there.
+fn after_mark(len: usize) -> usize
     requires { len < 2 ^ 63 }
-    ensures { result ≡ behind_mark len }
+    ensures { result ≡ after_mark len }
 {
     match len {
         0 => 0,
@@ -118,7 +118,7 @@ fn integer_len(bytes: &[u8]) -> usize
     ensures within { result ≤ length bytes.now }
 {
     match bytes {
-        [b'+' | b'-', rest @ ..] => behind_mark(digits_len(rest)),
+        [b'+' | b'-', rest @ ..] => after_mark(digits_len(rest)),
         _ => digits_len(bytes),
     }
 }
@@ -137,13 +137,13 @@ fn repeat_len(bytes: &[u8]) -> usize
     }
 }
 
-/// The length of `*` and an integer.
+// The length of `*` and an integer.
 fn times_len(bytes: &[u8]) -> usize
     ensures value { result ≡ times_len bytes.now }
     ensures within { result ≤ length bytes.now }
 {
     match bytes {
-        [b'*', rest @ ..] => behind_mark(integer_len(rest)),
+        [b'*', rest @ ..] => after_mark(integer_len(rest)),
         _ => 0,
     }
 }
@@ -158,7 +158,7 @@ fn text_len(bytes: &[u8]) -> usize
     }
 }
 
-/// The length of a text, mark in front and all, from what stands behind that mark.
+// The length of a text, mark in front and all, from what follows that mark.
 fn quoted_len(mark: u8, rest: &[u8]) -> usize
     ensures value { result ≡ quoted_len mark rest.now }
     ensures within { result ≤ length rest.now + 1 }
@@ -171,7 +171,7 @@ fn quoted_len(mark: u8, rest: &[u8]) -> usize
     }
 }
 
-/// How many bytes go before the mark or the end of the line.
+// How many bytes go before the mark or the end of the line.
 fn unmarked_len(mark: u8, bytes: &[u8]) -> usize
     ensures value { result ≡ front_len (is_plain mark) bytes.now }
     ensures within { result ≤ length bytes.now }
@@ -204,7 +204,7 @@ fn begins_with_word(bytes: &[u8], word: &[u8]) -> bool
     }
 }
 
-/// What the byte is that begins none of the longer tokens.
+// What the byte is that begins none of the longer tokens.
 fn mark_of(byte: u8) -> Kind
     ensures { result ≡ mark_of byte }
 {
@@ -216,7 +216,7 @@ fn mark_of(byte: u8) -> Kind
     }
 }
 
-/// The token in front: no two forms begin alike, but for a repeat, which begins with an integer.
+// The token in front: no two forms begin alike, but for a repeat, which begins with an integer.
 fn form_of(bytes: &[u8]) -> Form
     requires { 0 < length bytes.now }
     ensures value { result ≡ form_of bytes.now }
@@ -236,7 +236,7 @@ fn form_of(bytes: &[u8]) -> Form
 }
 
 impl Form {
-    /// This form, unless the text begins with one of another kind and so many bytes.
+    // This form, unless the text begins with one of another kind and so many bytes.
     fn unless(self, kind: Kind, len: usize) -> Form
         ensures value { result ≡ form_or kind len self }
         ensures some { 0 < self.len → 0 < result.len }
@@ -249,7 +249,7 @@ impl Form {
     }
 }
 
-/// How many bytes go before the end of the line.
+// How many bytes go before the end of the line.
 fn comment_len(bytes: &[u8]) -> usize
     ensures value { result ≡ comment_len bytes.now }
     ensures within { result ≤ length bytes.now }
@@ -257,7 +257,7 @@ fn comment_len(bytes: &[u8]) -> usize
     bytes.iter().take_while(|b| **b != b'\n').count()
 }
 
-/// What is left behind a separator or a comment in front, or nothing where none is there.
+// What is left after a separator or a comment in front, or nothing where none is there.
 fn past_gap(line: u32, bytes: &[u8]) -> Option<Cursor<'_>>
     requires { line + length bytes.now < 2 ^ 32 }
     ensures value { option_map place result ≡ past_gap line bytes.now }
@@ -278,7 +278,7 @@ fn past_gap(line: u32, bytes: &[u8]) -> Option<Cursor<'_>>
     }
 }
 
-/// What is left behind separators and comments.
+// What is left after separators and comments.
 fn skip(line: u32, bytes: &[u8]) -> Cursor<'_>
     requires { line + length bytes.now < 2 ^ 32 }
     ensures same { tokens_from 0 result.line result.rest.now ≡ tokens_from 0 line bytes.now }
@@ -293,7 +293,7 @@ fn skip(line: u32, bytes: &[u8]) -> Cursor<'_>
     cursor
 }
 
-/// The first token and what is left behind it, or nothing where no token is left.
+/// The first token and what is left after it, or nothing where no token is left.
 pub fn next_token(line: u32, bytes: &[u8]) -> Option<(Token<'_>, Cursor<'_>)>
     requires { line + length bytes.now < 2 ^ 32 }
     ensures next { NextIs (tokens_from 0 line bytes.now) result }

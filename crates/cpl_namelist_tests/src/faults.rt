@@ -48,14 +48,14 @@ const ORDER: [(&'static str, u32); 29] = [
     ("&air_nml\n", 2),
     ("&air_nml ! a comment without a line feed", 1),
     ("&air_nml ca\n=\n", 3),
-    // `&` with a blank behind it, and `&` alone
+    // `&` with a blank after it, and `&` alone
     ("& air_nml /", 1),
     ("\n&", 2),
     // the name has no value, no `=`, two
     ("&air_nml\nca /", 2),
     ("&air_nml\nca = /", 2),
     ("&air_nml ca\n= = 1 /", 2),
-    // a comma behind `=`, a second comma, a comma behind the name
+    // a comma after `=`, a second comma, a comma after the name
     ("&air_nml ca =\n, 1 /", 2),
     ("&air_nml ca = 1,\n, 2 /", 2),
     ("&air_nml ca , 1 /", 1),
@@ -64,7 +64,7 @@ const ORDER: [(&'static str, u32); 29] = [
     // a quote that never closes, on its line and over the end of it
     ("&air_nml\nca = 'abc /", 2),
     ("&air_nml ca =\n\"abc\n\" /", 2),
-    // `3*` with a blank behind it, `+3*2`, `2*.true.`, `1*2*3`: the `*` begins no token
+    // `3*` with a blank after it, `+3*2`, `2*.true.`, `1*2*3`: the `*` begins no token
     ("&air_nml month = 3* 5 /", 1),
     ("&air_nml month =\n+3*2 /", 2),
     ("&air_nml month = 2*.true. /", 1),
@@ -88,7 +88,7 @@ const ORDER: [(&'static str, u32); 29] = [
 ];
 
 #[test]
-fn order_of_tokens(rt: HostRuntime) {
+fn tokens_out_of_order_are_refused(rt: HostRuntime) {
     all_syntax(&rt, &ORDER);
 }
 
@@ -124,7 +124,7 @@ const HEADINGS: [(&'static str, NamesError); 14] = [
 ];
 
 #[test]
-fn headings_and_names(rt: HostRuntime) {
+fn the_first_wrong_heading_or_name_decides(rt: HostRuntime) {
     all_faults(&rt, &HEADINGS);
 }
 
@@ -157,7 +157,7 @@ const MISSING: [(&'static str, Required); 8] = [
 ];
 
 #[test]
-fn missing_names(rt: HostRuntime) {
+fn the_first_missing_name_decides(rt: HostRuntime) {
     all_missing(&rt, &MISSING);
 }
 
@@ -203,7 +203,7 @@ const STEPS: [(&'static str, StepFault); 8] = [
 ];
 
 #[test]
-fn steps(rt: HostRuntime) {
+fn the_first_broken_step_decides(rt: HostRuntime) {
     all_steps(&rt, &STEPS);
 }
 
@@ -211,7 +211,7 @@ fn all_printed(rt: &impl Abort, alloc: Global, cases: &[(NamesError, &str)]) {
     for (fault, want) in cases {
         match format!(in alloc; "{fault}") {
             Ok(text) => assert!(rt; text.as_str() == *want, "{want}"),
-            Err(_) => panic!(rt; "no memory"),
+            Err(_) => panic!(rt; "out of memory"),
         }
     }
 }
@@ -235,6 +235,6 @@ const PRINTED: [(NamesError, &'static str); 8] = [
 ];
 
 #[test]
-fn printed(rt: HostRuntime) {
+fn faults_have_texts(rt: HostRuntime) {
     all_printed(&rt, rt.alloc(), &PRINTED);
 }

@@ -2,6 +2,7 @@
 ghost use Rattle.std.specs.Prelude.{IfOk};
 ghost use Rattle.cpl_namelist.specs.Civil.{IsStart};
 
+use cpl_fixed::Rates;
 use cpl_namelist::{Names, NamesError};
 use std::test::Fail;
 
@@ -16,8 +17,48 @@ pub fn read(text: &str) -> Result<Names, NamesError>
     Names::read(bytes)
 }
 
+/// The rates where none is given.
+const DEFAULTS: Rates = Rates {
+    ca: 10,
+    kh: 1024,
+    ke: 4096,
+    hs: 1000,
+    ko: 1024,
+    rc: 1,
+    month: [1000; 12],
+    cl: 10,
+    cap: 10,
+    land_albedo: 200,
+    h0: 100,
+    bounds: [100, 200, 400, 800],
+    ice_albedo: 600,
+    water_albedo: 100,
+    slope: 8,
+    mix: 6,
+};
+
+/// The rates of a text that gives every name.
+const OTHERS: Rates = Rates {
+    ca: 1,
+    kh: 0,
+    ke: 1048576,
+    hs: 2,
+    ko: 131072,
+    rc: 0,
+    month: [0, 4000, 7, 7, 7, 7, 7, 7, 7, 7, 7, 7],
+    cl: 1048576,
+    cap: 3,
+    land_albedo: 1000,
+    h0: 4,
+    bounds: [1, 2, 3, 1048576],
+    ice_albedo: 5,
+    water_albedo: 6,
+    slope: 40,
+    mix: 2,
+};
+
 #[test]
-fn two_lines(rt: HostRuntime) -> Result<(), Fail> {
+fn what_is_not_given_is_by_default(rt: HostRuntime) -> Result<(), Fail> {
     let text =
         "&COUPLER_NML Current_Date = 2001 1 1 3*0 ! start\ncalendar=\"Gregorian\", hours=2, dt_atmos=1800, dt_cpld=3600, /\n&ocean_nml dt_ocean=3600 /";
     let names = read(text)?;
@@ -29,24 +70,12 @@ fn two_lines(rt: HostRuntime) -> Result<(), Fail> {
     assert_eq!(rt; names.start, [2001, 1, 1, 0, 0, 0]);
     // all else by default
     assert_eq!(rt; names.layouts, [(1, 1); 4]);
-    let rates = names.rates;
-    assert_eq!(rt;
-        [rates.ca, rates.kh, rates.ke, rates.hs, rates.ko, rates.rc],
-        [10, 1024, 4096, 1000, 1024, 1]
-    );
-    assert_eq!(rt; rates.month, [1000; 12]);
-    assert_eq!(rt; [rates.cl, rates.cap, rates.land_albedo], [10, 10, 200]);
-    assert_eq!(rt;
-        [rates.h0, rates.ice_albedo, rates.water_albedo],
-        [100, 600, 100]
-    );
-    assert_eq!(rt; rates.bounds, [100, 200, 400, 800]);
-    assert_eq!(rt; [rates.slope, rates.mix], [8, 6]);
+    assert_eq!(rt; names.rates, DEFAULTS);
     Ok(())
 }
 
 #[test]
-fn every_name(rt: HostRuntime) -> Result<(), Fail> {
+fn every_name_is_taken(rt: HostRuntime) -> Result<(), Fail> {
     let text = "&layout_nml atmos_layout=1 2, land_layout=3,4 ice_layout=5,6, ocean_layout=64 64/\
         &air_nml ca=1 kh=0 ke=1048576 hs=2 ko=131072 rc=0 month=0 4000 10*7/\
         &land_nml cl=1048576 cap=3 albedo=1000/ &ice_nml h0=4 bounds=1 2 3 1048576 albedo=5 water_albedo=6/\
@@ -55,19 +84,7 @@ fn every_name(rt: HostRuntime) -> Result<(), Fail> {
         concurrent=.true. current_date=9999,12,31,23,59,59/";
     let names = read(text)?;
     assert_eq!(rt; names.layouts, [(1, 2), (3, 4), (5, 6), (64, 64)]);
-    let rates = names.rates;
-    assert_eq!(rt;
-        [rates.ca, rates.kh, rates.ke, rates.hs, rates.ko, rates.rc],
-        [1, 0, 1048576, 2, 131072, 0]
-    );
-    assert_eq!(rt; rates.month, [0, 4000, 7, 7, 7, 7, 7, 7, 7, 7, 7, 7]);
-    assert_eq!(rt;
-        [rates.cl, rates.cap, rates.land_albedo],
-        [1048576, 3, 1000]
-    );
-    assert_eq!(rt; [rates.h0, rates.ice_albedo, rates.water_albedo], [4, 5, 6]);
-    assert_eq!(rt; rates.bounds, [1, 2, 3, 1048576]);
-    assert_eq!(rt; [rates.slope, rates.mix], [40, 2]);
+    assert_eq!(rt; names.rates, OTHERS);
     assert_eq!(rt; names.start, [9999, 12, 31, 23, 59, 59]);
     // 86400 + 7200 + 180 + 20 = 93800 seconds
     assert_eq!(rt;

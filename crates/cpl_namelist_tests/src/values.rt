@@ -22,19 +22,10 @@ fn all_refused(rt: &impl Abort, texts: &[&str]) {
 }
 
 /// Texts whose values are all right.
-const TAKEN: [&'static str; 31] = [
-    // the ends of ranges
+const TAKEN: [&'static str; 22] = [
+    // the ends of a range
     "&air_nml ca=1/",
     "&air_nml ca=1048576/",
-    "&air_nml kh=0 ke=0 hs=0 ko=0 rc=0/",
-    "&air_nml ko=131072/",
-    "&air_nml month=12*0/",
-    "&air_nml month=12*4000/",
-    "&ocean_nml slope=0 mix=2/",
-    "&ocean_nml slope=40 mix=40/",
-    "&ice_nml bounds=4*1/",
-    "&layout_nml ice_layout=1 64/",
-    "&coupler_nml days=1000000000 hours=0/",
     // signs, leading zeros, repeats of one, and a sign inside a repeat
     "&air_nml kh=-0/",
     "&air_nml ca=+5/",
@@ -43,7 +34,7 @@ const TAKEN: [&'static str; 31] = [
     "&air_nml month=012*+3/",
     "&air_nml month=6*1 6*2/",
     "&air_nml month=1,2,3,4,5,6,7,8,9,10,11,12,/",
-    // no separators, a word directly behind a number, values over lines, comments between
+    // no separators, a word directly after a number, values over lines, comments between
     "&air_nml ca=3600kh=1/",
     "&air_nml month=1+2+3+4+5+6+7+8+9+10+11+12/",
     "&air_nml month =\n1 2 3\n, 4 5 6 ! half a year\n7 8 9 10 11\n12 /",
@@ -62,23 +53,12 @@ const TAKEN: [&'static str; 31] = [
 ];
 
 /// Texts with a wrong value on line 1.
-const REFUSED: [&'static str; 55] = [
-    // just outside the ranges
+const REFUSED: [&'static str; 44] = [
+    // just outside a range
     "&air_nml ca=0/",
     "&air_nml ca=1048577/",
     "&air_nml kh=-1/",
-    "&air_nml ko=131073/",
     "&air_nml month=11*0 4001/",
-    "&ocean_nml slope=41/",
-    "&ocean_nml mix=1/",
-    "&ocean_nml mix=41/",
-    "&ocean_nml dt_ocean=0/",
-    "&ocean_nml dt_ocean=2678401/",
-    "&ice_nml bounds=3*1 0/",
-    "&land_nml albedo=1001/",
-    "&layout_nml ice_layout=0 1/",
-    "&layout_nml ice_layout=1 65/",
-    "&coupler_nml days=1000000001/",
     // past 32 and 64 bits: 2^32 + 1, 2^64 + 1
     "&air_nml ca=4294967297/",
     "&air_nml ca=18446744073709551617/",
@@ -92,7 +72,7 @@ const REFUSED: [&'static str; 55] = [
     "&ice_nml bounds=1 2 3/",
     "&layout_nml ice_layout=1/",
     "&coupler_nml current_date=2001 1 1 0 0/",
-    // repeats of 0, above 64, and far above; 64 is lawful but too many here
+    // repeats of 0, above 64, and far above; 64 is allowed but too many here
     "&air_nml ca=0*1 1/",
     "&air_nml month=65*1/",
     "&air_nml ca=1 65*1/",
@@ -128,11 +108,11 @@ const REFUSED: [&'static str; 55] = [
 ];
 
 #[test]
-fn taken(rt: HostRuntime) {
+fn right_values_are_taken(rt: HostRuntime) {
     all_taken(&rt, &TAKEN);
 }
 
 #[test]
-fn refused(rt: HostRuntime) {
+fn wrong_values_are_refused(rt: HostRuntime) {
     all_refused(&rt, &REFUSED);
 }

@@ -11,19 +11,19 @@ loop-token-init c = record {
   lines = c.requires.lines;
 }
 
-pub returns-in-Ends : goal.returns-in-Ends
-returns-in-Ends c =
+pub returns-in-End : goal.returns-in-End
+returns-in-End c =
     let cursor = c.loop-token.cursor in
     let found = c.in-Some in
-    c.finished.ensures
-    ∙ front_ends c.args.row (listed c.loop-token.numbers) (tokens_from 0 cursor.line cursor.rest.now) (seen found.token) (tokens_from 0 found.after.line found.after.rest.now) found.ensures.next c.in-Ends.ensures
+    c.fitted.ensures
+    ∙ front_ends c.args.row (listed c.loop-token.numbers) (tokens_from 0 cursor.line cursor.rest.now) (seen found.token) (tokens_from 0 found.after.line found.after.rest.now) found.ensures.next c.in-End.ensures
     ∙ c.loop-token.invariant.same
 
-pub returns-in-Fails : goal.returns-in-Fails
-returns-in-Fails c =
+pub returns-in-Wrong : goal.returns-in-Wrong
+returns-in-Wrong c =
     let cursor = c.loop-token.cursor in
     let found = c.in-Some in
-    sym (front_fails c.args.row (listed c.loop-token.numbers) (tokens_from 0 cursor.line cursor.rest.now) (seen found.token) (tokens_from 0 found.after.line found.after.rest.now) found.ensures.next c.in-Fails.ensures)
+    sym (front_fails c.args.row (listed c.loop-token.numbers) (tokens_from 0 cursor.line cursor.rest.now) (seen found.token) (tokens_from 0 found.after.line found.after.rest.now) found.ensures.next c.in-Wrong.ensures)
     ∙ c.loop-token.invariant.same
 
 pub loop-token-preserved : goal.loop-token-preserved
@@ -31,15 +31,15 @@ loop-token-preserved c =
     let cursor = c.loop-token.cursor in
     let found = c.in-Some in
     record {
-      same = front_goes c.args.row (listed c.loop-token.numbers) (listed c.in-Goes.next) (tokens_from 0 cursor.line cursor.rest.now) (seen found.token) (tokens_from 0 found.after.line found.after.rest.now) found.ensures.next c.in-Goes.ensures.1
+      same = front_goes c.args.row (listed c.loop-token.numbers) (listed c.in-More.next) (tokens_from 0 cursor.line cursor.rest.now) (seen found.token) (tokens_from 0 found.after.line found.after.rest.now) found.ensures.next c.in-More.ensures.1
           ∙ c.loop-token.invariant.same;
-      room = c.in-Goes.ensures.0;
+      room = c.in-More.ensures.0;
       lines = found.ensures.lines;
     }
 
 pub returns : goal.returns
 returns c =
     let cursor = c.loop-token.cursor in
-    c.finished-2.ensures
+    c.fitted-2.ensures
     ∙ front_is_all c.args.row (listed c.loop-token.numbers) (tokens_from 0 cursor.line cursor.rest.now) c.in_default.ensures.next
     ∙ c.loop-token.invariant.same

@@ -1,22 +1,24 @@
 use Rattle.std.proofs.Common.{sym, ◌∙◌}
+use Rattle.std.proofs.lemmas.Result.{err_from_is_err_and}
 use Rattle.cpl_namelist.specs.Tokens.{tokens_from, seen}
 use Rattle.cpl_namelist.specs.Settings.{choices}
 use Rattle.cpl_namelist.proofs.Judged.{judged_on, judged_wrong, judged_all}
 use Rattle.cpl_namelist.proofs.settings.settings_of.Goals as goal
 
-pub returns-in-Err : goal.returns-in-Err
-returns-in-Err c =
+pub returns-in_err-take : goal.returns-in_err-take
+returns-in_err-take c =
+    let p = err_from_is_err_and c.from_residual.result c.from_residual.ensures.1 in
     let cursor = c.loop-token.cursor in
     let found = c.in-Some in
-    sym c.loop-token.invariant.same
-    ∙ judged_wrong (choices c.loop-token.settings) (tokens_from 0 cursor.line cursor.rest.now) (seen found.token) (tokens_from 0 found.after.line found.after.rest.now) c.in-Err.fault found.ensures.next c.in-Err.ensures
+    rw (p.1, p.2) (sym c.loop-token.invariant.same
+    ∙ judged_wrong (choices c.loop-token.settings) (tokens_from 0 cursor.line cursor.rest.now) (seen found.token) (tokens_from 0 found.after.line found.after.rest.now) c.in_err-take.field-0.0 found.ensures.next c.in_err-take.ensures)
 
 pub loop-token-preserved : goal.loop-token-preserved
 loop-token-preserved c =
     let cursor = c.loop-token.cursor in
     let found = c.in-Some in
     record {
-      same = judged_on (choices c.loop-token.settings) (choices c.take.new.self) (tokens_from 0 cursor.line cursor.rest.now) (seen found.token) (tokens_from 0 found.after.line found.after.rest.now) found.ensures.next c.in_default-take.ensures
+      same = judged_on (choices c.loop-token.settings) (choices c.take.new.self) (tokens_from 0 cursor.line cursor.rest.now) (seen found.token) (tokens_from 0 found.after.line found.after.rest.now) found.ensures.next c.in_ok-take.ensures
           ∙ c.loop-token.invariant.same;
       lines = found.ensures.lines;
     }

@@ -1,7 +1,7 @@
 use Rattle.std.proofs.Common.{◌≡◌, ◌+◌, ◌<◌, ◌^◌, length}
 use Rattle.cpl_namelist.specs.Tokens.{tokens_from, tokens, last_line}
 use Rattle.cpl_namelist.specs.Syntax.{syntax_fault}
-use Rattle.cpl_namelist.specs.declared.syntax.Place.TheVariants.{Outside}
+use Rattle.cpl_namelist.specs.declared.syntax.State.TheVariants.{Outside}
 use Rattle.cpl_namelist.proofs.syntax.syntax_fault.Given as goal
 
 abbrev pub invariant-loop-token : goal.invariant-loop-token

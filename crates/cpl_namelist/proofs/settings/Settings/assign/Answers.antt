@@ -14,8 +14,8 @@ use Rattle.cpl_namelist.proofs.settings.Settings.assign.Goals as goal
 abbrev with_given : Choices → List (Option (List ℕ)) → Result Choices NamesError
 with_given chosen given = Ok (record { group = chosen.group; groups = chosen.groups; given = given })
 
-pub returns-in-Some-numbers_in : goal.returns-in-Some-numbers_in
-returns-in-Some-numbers_in c =
+pub returns : goal.returns
+returns c =
     let chosen = choices c.args.self.now in
     let others = tokens_from 0 c.args.line c.args.rest.now in
     let numbers = c.in-Some-numbers_in.numbers in
