@@ -8,8 +8,9 @@ use Rattle.std.proofs.lemmas.Int.{ints}
 use Rattle.std.proofs.lemmas.List.{append-nil}
 use Rattle.std.proofs.lemmas.List.Elements.{All-from_recursion, recursion_from_All}
 use Rattle.cpl_restart.specs.Numbers.{section_bytes, is_negative, IsAmount}
-use Rattle.cpl_restart.specs.Sections.{◌>>=◌, behind_mark, section_at, nothing_behind, no_negative}
-use Rattle.cpl_restart.specs.AirBytes.{Gives, IsAir, air_mark, air_bytes, air_of}
+use Rattle.cpl_fixed.specs.Results.{◌>>=◌}
+use Rattle.cpl_restart.specs.Sections.{after_mark, section_at, nothing_after, no_negative}
+use Rattle.cpl_restart.specs.AirBytes.{Reads, IsAir, air_mark, air_bytes, air_of}
 use Rattle.cpl_restart.specs.declared.air.Air.{Air}
 use Rattle.cpl_restart.specs.declared.start_error.StartError.{StartError}
 use Rattle.cpl_restart.proofs.Words.{IsBytes}
@@ -40,7 +41,7 @@ abbrev pub signed : (heat vapour : List ℤ) → Result Air StartError
 signed heat vapour = no_negative 1 heat >>= λ h. no_negative 2 vapour >>= λ v. Ok (made heat vapour)
 
 abbrev pub ended : (heat vapour : List ℤ) → List ℕ → Result Air StartError
-ended heat vapour bytes = nothing_behind bytes >>= λ whole. signed heat vapour
+ended heat vapour bytes = nothing_after bytes >>= λ whole. signed heat vapour
 
 abbrev pub with_vapour : ℕ → List ℤ → List ℕ → Result Air StartError
 with_vapour cells heat bytes = section_at 2 cells bytes >>= λ vapour. ended heat vapour.0 vapour.1
@@ -51,10 +52,10 @@ with_heat cells bytes = section_at 1 cells bytes >>= λ heat. with_vapour cells 
 pub air_takes : (cells : ℕ) (bytes : List ℕ) (air : Air) → IsBytes bytes → air_of cells bytes ≡ Ok air → IsAir cells air × (bytes ≡ air_bytes air)
 unfolding air_of
 air_takes cells bytes air fits e =
-    let a = bind_ok (behind_mark air_mark bytes) (with_heat cells) air e in
+    let a = bind_ok (after_mark air_mark bytes) (with_heat cells) air e in
     let b = bind_ok (section_at 1 cells a.0) (λ heat. with_vapour cells heat.0 heat.1) air a.2 in
     let c = bind_ok (section_at 2 cells b.0.1) (λ vapour. ended b.0.0 vapour.0 vapour.1) air b.2 in
-    let d = bind_ok (nothing_behind c.0.1) (λ whole. signed b.0.0 c.0.0) air c.2 in
+    let d = bind_ok (nothing_after c.0.1) (λ whole. signed b.0.0 c.0.0) air c.2 in
     let h = bind_ok (no_negative 1 b.0.0) (λ h. no_negative 2 c.0.0 >>= λ v. Ok (made b.0.0 c.0.0)) air d.2 in
     let v = bind_ok (no_negative 2 c.0.0) (λ v. Ok (made b.0.0 c.0.0)) air h.2 in
     let mark = mark_takes air_mark bytes a.0 fits a.1 in
@@ -80,17 +81,17 @@ air_again cells air small is =
     let v = words air.vapour (recursion_from_All IsAmount air.vapour is.vapour) in
     let grouped : air_bytes air ≡ air_mark ++ (heat ++ (vapour ++ [])) = append_assoc air_mark heat vapour ∙ ap (λ (r : List ℕ). air_mark ++ (heat ++ r)) (sym (append-nil vapour)) in
     ap (air_of cells) grouped
-    ∙ bind_at (behind_mark air_mark (air_mark ++ (heat ++ (vapour ++ [])))) (heat ++ (vapour ++ [])) (with_heat cells) (mark_again air_mark (heat ++ (vapour ++ [])) refl)
+    ∙ bind_at (after_mark air_mark (air_mark ++ (heat ++ (vapour ++ [])))) (heat ++ (vapour ++ [])) (with_heat cells) (mark_again air_mark (heat ++ (vapour ++ [])) refl)
     ∙ bind_at (section_at 1 cells (heat ++ (vapour ++ []))) (air.heat, vapour ++ []) (λ x. with_vapour cells x.0 x.1) (section_again 1 cells air.heat (vapour ++ []) small (record { count = is.heat_length; each = h.0 }))
     ∙ bind_at (section_at 2 cells (vapour ++ [])) (air.vapour, []) (λ x. ended air.heat x.0 x.1) (section_again 2 cells air.vapour [] small (record { count = is.vapour_length; each = v.0 }))
     ∙ bind_at (no_negative 1 air.heat) tt (λ x. no_negative 2 air.vapour >>= λ y. Ok air) (signs_again 1 air.heat h.1)
     ∙ bind_at (no_negative 2 air.vapour) tt (λ y. Ok air) (signs_again 2 air.vapour v.1)
 
 -- the same of what a reader returned
-pub is_air : (cells : ℕ) (bytes : List ℕ) (r : Result Air StartError) → IsBytes bytes → Gives (λ (air : Air). air) r (air_of cells bytes) → IfOk r (IsAir cells)
+pub is_air : (cells : ℕ) (bytes : List ℕ) (r : Result Air StartError) → IsBytes bytes → Reads (λ (air : Air). air) r (air_of cells bytes) → IfOk r (IsAir cells)
 is_air cells bytes (Ok air) fits given = (air_takes cells bytes air fits given).0
 is_air cells bytes (Err e) fits given = tt
 
-pub is_spelled : (cells : ℕ) (bytes : List ℕ) (r : Result Air StartError) → IsBytes bytes → Gives (λ (air : Air). air) r (air_of cells bytes) → IfOk r (λ air. bytes ≡ air_bytes air)
+pub is_spelled : (cells : ℕ) (bytes : List ℕ) (r : Result Air StartError) → IsBytes bytes → Reads (λ (air : Air). air) r (air_of cells bytes) → IfOk r (λ air. bytes ≡ air_bytes air)
 is_spelled cells bytes (Ok air) fits given = (air_takes cells bytes air fits given).1
 is_spelled cells bytes (Err e) fits given = tt

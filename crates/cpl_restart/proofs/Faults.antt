@@ -8,7 +8,8 @@ use Rattle.std.proofs.lemmas.Bool.{cases_lt}
 use Rattle.std.proofs.lemmas.List.{append-nil, length-append, take-append-le, length-take-le}
 use Rattle.std.proofs.lemmas.List.Elements.{recursion_from_All}
 use Rattle.cpl_restart.specs.Numbers.{number_bytes, section_bytes, is_negative}
-use Rattle.cpl_restart.specs.Sections.{◌>>=◌, behind_mark, section_at, nothing_behind, no_negative_at, no_negative}
+use Rattle.cpl_fixed.specs.Results.{◌>>=◌}
+use Rattle.cpl_restart.specs.Sections.{after_mark, section_at, nothing_after, no_negative_at, no_negative}
 use Rattle.cpl_restart.specs.AirBytes.{HasSections, air_mark, air_bytes, air_of}
 use Rattle.cpl_restart.specs.declared.air.Air.{Air}
 use Rattle.cpl_restart.specs.declared.start_error.StartError.TheVariants.{Short, Magic, Shape, Trailing, Negative}
@@ -25,7 +26,7 @@ vapour_is cells air has = record { count = has.vapour_length; each = recursion_f
 -- bytes with a mark, by what stands behind it
 marked : (cells : ℕ) (bytes : List ℕ) → air_of cells (air_mark ++ bytes) ≡ with_heat cells bytes
 unfolding air_of
-marked cells bytes = bind_at (behind_mark air_mark (air_mark ++ bytes)) bytes (with_heat cells) (mark_again air_mark bytes refl)
+marked cells bytes = bind_at (after_mark air_mark (air_mark ++ bytes)) bytes (with_heat cells) (mark_again air_mark bytes refl)
 
 -- and with heats
 heated : (cells : ℕ) (air : Air) (bytes : List ℕ) → cells < 2 ^ 64 → HasSections cells air → air_of cells (air_mark ++ (section_bytes air.heat ++ bytes)) ≡ with_vapour cells air.heat bytes
@@ -45,11 +46,11 @@ filled cells air bytes small has =
 
 pub is_magic : (cells : ℕ) (bytes : List ℕ) → 8 ≤ length bytes → take 8 bytes ≢ air_mark → air_of cells bytes ≡ Err Magic
 unfolding air_of
-is_magic cells bytes le ne = bind_err (behind_mark air_mark bytes) Magic (with_heat cells) (mark_other air_mark bytes le ne)
+is_magic cells bytes le ne = bind_err (after_mark air_mark bytes) Magic (with_heat cells) (mark_other air_mark bytes le ne)
 
 pub is_no_mark : (cells : ℕ) (bytes : List ℕ) → length bytes < 8 → air_of cells bytes ≡ Err Short
 unfolding air_of
-is_no_mark cells bytes lt = bind_err (behind_mark air_mark bytes) Short (with_heat cells) (mark_short air_mark bytes lt)
+is_no_mark cells bytes lt = bind_err (after_mark air_mark bytes) Short (with_heat cells) (mark_short air_mark bytes lt)
 
 pub is_no_first_count : (cells : ℕ) (bytes : List ℕ) → length bytes < 8 → air_of cells (air_mark ++ bytes) ≡ Err Short
 is_no_first_count cells bytes lt =
@@ -71,7 +72,7 @@ is_second_shape cells n air rest fits has small ne =
 
 pub is_trailing : (cells : ℕ) (air : Air) (more : List ℕ) → cells < 2 ^ 64 → HasSections cells air → 0 < length more → air_of cells (air_bytes air ++ more) ≡ Err Trailing
 is_trailing cells air more small has lt =
-    filled cells air more small has ∙ bind_err (nothing_behind more) Trailing (λ whole. signed air.heat air.vapour) (more_behind more lt)
+    filled cells air more small has ∙ bind_err (nothing_after more) Trailing (λ whole. signed air.heat air.vapour) (more_behind more lt)
 
 -- all of the bytes, by the signs
 whole : (cells : ℕ) (air : Air) → cells < 2 ^ 64 → HasSections cells air → air_of cells (air_bytes air) ≡ signed air.heat air.vapour
@@ -120,6 +121,6 @@ is_short cells n air small has lt =
     let grouped : air_bytes air ≡ air_mark ++ sections = append_assoc air_mark (section_bytes air.heat) (section_bytes air.vapour) in
     let size : length (air_bytes air) ≡ 8 + length sections = ap length grouped ∙ length-append air_mark sections in
     elim (cases_lt n 8) [
-      | inl few ↦ bind_err (behind_mark air_mark (take n (air_bytes air))) Short (with_heat cells) (mark_short air_mark (take n (air_bytes air)) (omega (arith, length-take-le n (air_bytes air) (omega arith))))
+      | inl few ↦ bind_err (after_mark air_mark (take n (air_bytes air))) Short (with_heat cells) (mark_short air_mark (take n (air_bytes air)) (omega (arith, length-take-le n (air_bytes air) (omega arith))))
       | inr le ↦ ap (λ (r : List ℕ). air_of cells (take n r)) grouped ∙ ap (air_of cells) (take_past air_mark sections n le) ∙ short_heat cells (n - 8) air small has (omega arith)
     ]

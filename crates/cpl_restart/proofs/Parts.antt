@@ -11,7 +11,8 @@ use Rattle.std.proofs.lemmas.Slice.Eq.{bytes_eq-Decides}
 use Rattle.byteorder.specs.Endian.{big_number}
 use Rattle.byteorder.specs.Numbers.{big_from-take}
 use Rattle.cpl_restart.specs.Numbers.{number_bytes, numbers_bytes, numbers_in, section_bytes, is_negative}
-use Rattle.cpl_restart.specs.Sections.{◌>>=◌, behind_mark, section_numbers, section_at, nothing_behind, no_negative_at, no_negative}
+use Rattle.cpl_fixed.specs.Results.{◌>>=◌}
+use Rattle.cpl_restart.specs.Sections.{after_mark, section_numbers, section_at, nothing_after, no_negative_at, no_negative}
 use Rattle.cpl_restart.specs.declared.start_error.StartError.{StartError}
 use Rattle.cpl_restart.specs.declared.start_error.StartError.TheVariants.{Short, Magic, Shape, Trailing}
 use Rattle.cpl_restart.proofs.Words.{IsBytes, IsBytes-drop, length-number_bytes, length-numbers_bytes, length-numbers_in, count_again, count_back, numbers_again, numbers_back, numbers_fit}
@@ -56,7 +57,7 @@ Takes-then a x b y c p q = record { parts = p.parts ∙ ap (λ (t : List ℕ). x
 
 -- ---- a mark
 
-pub mark_takes : (mark bytes rest : List ℕ) → IsBytes bytes → behind_mark mark bytes ≡ Ok rest → Takes bytes mark rest
+pub mark_takes : (mark bytes rest : List ℕ) → IsBytes bytes → after_mark mark bytes ≡ Ok rest → Takes bytes mark rest
 mark_takes mark bytes rest fits e =
     let a = refused_ok (ltb (length bytes) 8) Short (cond (bytes_eq (take 8 bytes) mark) (Ok (drop 8 bytes)) (Err Magic)) rest e in
     let b = asked_ok (bytes_eq (take 8 bytes) mark) (Ok (drop 8 bytes)) Magic rest a.1 in
@@ -64,18 +65,18 @@ mark_takes mark bytes rest fits e =
     let whole : Takes bytes mark (drop 8 bytes) = record { parts = sym (take-append-drop 8 bytes) ∙ ap (λ (m : List ℕ). m ++ drop 8 bytes) is; rest_fits = IsBytes-drop 8 bytes fits } in
     subst (Takes bytes mark) (ok_is (drop 8 bytes) rest b.1) whole
 
-pub mark_again : (mark rest : List ℕ) → length mark ≡ 8 → behind_mark mark (mark ++ rest) ≡ Ok rest
+pub mark_again : (mark rest : List ℕ) → length mark ≡ 8 → after_mark mark (mark ++ rest) ≡ Ok rest
 mark_again mark rest len =
     let long : ltb (length (mark ++ rest)) 8 ≡ false = le-ltb _ _ (omega (arith, length-append mark rest)) in
     let same : bytes_eq mark mark ≡ true = (bytes_eq-Decides mark mark).1 refl in
     rw (long, take_at mark rest 8 len, drop_at mark rest 8 len, same) refl
 
-pub mark_short : (mark bytes : List ℕ) → length bytes < 8 → behind_mark mark bytes ≡ Err Short
+pub mark_short : (mark bytes : List ℕ) → length bytes < 8 → after_mark mark bytes ≡ Err Short
 mark_short mark bytes lt =
     let short : ltb (length bytes) 8 ≡ true = lt-ltb _ _ lt in
     rw short refl
 
-pub mark_other : (mark bytes : List ℕ) → 8 ≤ length bytes → take 8 bytes ≢ mark → behind_mark mark bytes ≡ Err Magic
+pub mark_other : (mark bytes : List ℕ) → 8 ≤ length bytes → take 8 bytes ≢ mark → after_mark mark bytes ≡ Err Magic
 mark_other mark bytes le ne =
     let long : ltb (length bytes) 8 ≡ false = le-ltb _ _ le in
     let differs : bytes_eq (take 8 bytes) mark ≡ false = not_true (bytes_eq (take 8 bytes) mark) (λ e. ne ((bytes_eq-Decides (take 8 bytes) mark).0 e)) in
@@ -148,11 +149,11 @@ section_shape section n other rest small ne =
 
 -- ---- the end
 
-pub more_behind : (bytes : List ℕ) → 0 < length bytes → nothing_behind bytes ≡ Err Trailing
+pub more_behind : (bytes : List ℕ) → 0 < length bytes → nothing_after bytes ≡ Err Trailing
 more_behind [] lt = absurd (omega arith)
 more_behind (byte ∷ bytes) lt = refl
 
-pub end_takes : (bytes : List ℕ) → nothing_behind bytes ≡ Ok tt → bytes ≡ []
+pub end_takes : (bytes : List ℕ) → nothing_after bytes ≡ Ok tt → bytes ≡ []
 end_takes [] e = refl
 end_takes (byte ∷ bytes) e = absurd cc
 

@@ -3,8 +3,9 @@ use Rattle.std.specs.Prelude.{◌≡◌, ℕ, List, ◌++◌, codes, length, Res
 use Rattle.std.specs.Int.{w64}
 use Rattle.std.specs.Int.RustNames.{FitsSigned}
 use Rattle.cpl_restart.specs.Numbers.{section_bytes, IsAmount}
-use Rattle.cpl_restart.specs.Sections.{◌>>=◌, behind_mark, section_at, nothing_behind, no_negative}
-pub use Rattle.cpl_restart.specs.Sections.{Fails, Gives}
+use Rattle.cpl_fixed.specs.Results.{◌>>=◌}
+use Rattle.cpl_restart.specs.Sections.{after_mark, section_at, nothing_after, no_negative}
+pub use Rattle.cpl_restart.specs.Sections.{Reads}
 use Rattle.cpl_restart.specs.declared.air.Air.{Air}
 use Rattle.cpl_restart.specs.declared.start_error.StartError.{StartError}
 
@@ -34,10 +35,10 @@ pub record HasSections (cells : ℕ) (air : Air) : Type 0 where
 -- missing or of another count, then what stands behind the end, then the first negative number.
 unfoldable pub air_of : ℕ → List ℕ → Result Air StartError
 air_of cells bytes = do
-  sections ← behind_mark air_mark bytes
+  sections ← after_mark air_mark bytes
   heat ← section_at 1 cells sections
   vapour ← section_at 2 cells heat.1
-  whole ← nothing_behind vapour.1
+  whole ← nothing_after vapour.1
   heat_signs ← no_negative 1 heat.0
   vapour_signs ← no_negative 2 vapour.0
   Ok (record { heat = heat.0; vapour = vapour.0 })

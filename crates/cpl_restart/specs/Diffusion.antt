@@ -1,7 +1,9 @@
 -- The diffusion of the air: a step over all sides at once.
-use Rattle.std.specs.Prelude.{◌≡◌, ℕ, zero, suc, ◌+◌, ◌*◌, ◌^◌, ◌<◌, List, [], ◌∷◌, length, map, ℤ, pos, ◌+ℤ◌, ◌-ℤ◌, ◌*ℤ◌, ◌<ℤ◌, ◌≤ℤ◌, Option, Some, None, slice_index_or, All}
+use Rattle.std.specs.Prelude.{◌≡◌, ℕ, zero, suc, List, length, map, ℤ, pos, ◌+ℤ◌, ◌-ℤ◌, ◌*ℤ◌, ◌<ℤ◌, ◌≤ℤ◌, Option, Some, None, slice_index_or, All}
 use Rattle.std.specs.List.{range_with_len}
-use Rattle.cpl_fixed.specs.Division.{trunc}
+pub use Rattle.cpl_fixed.specs.Flows.{IsAirArea, flow}
+pub use Rattle.cpl_fixed.specs.Totals.{total_of}
+use Rattle.cpl_fixed.specs.declared.limits.TheConstants.{MOST_TOTAL}
 use Rattle.cpl_mosaic.specs.declared.parts.Side.{Side}
 use Rattle.cpl_mosaic.specs.declared.parts.Side.TheVariants.{W, E, S, N}
 use Rattle.cpl_mosaic.specs.declared.mosaic.Mesh.{Mesh}
@@ -18,10 +20,6 @@ cell_count mesh = cells_of mesh.mosaic.tiles
 -- the amount or area of a cell, by its number
 abbrev pub at : List ℤ → ℕ → ℤ
 at xs n = slice_index_or xs n (pos 0)
-
--- what flows out of a cell with the amount x and the area a into one with the amount x' and the area a'
-abbrev pub flow : (x a x' a' : ℤ) → ℤ
-flow x a x' a' = trunc ((x *ℤ a') -ℤ (x' *ℤ a)) (pos 8 *ℤ (a +ℤ a'))
 
 -- the number of the cell that has this side
 abbrev pub cell_number : Mesh → CellSide → ℕ
@@ -52,14 +50,6 @@ diffused_by (suc n) mesh xs = diffused mesh (diffused_by n mesh xs)
 abbrev pub air_after : ℕ → Mesh → Air → Air
 air_after n mesh air = record { heat = diffused_by n mesh air.heat; vapour = diffused_by n mesh air.vapour }
 
-abbrev pub total_of : List ℤ → ℤ
-total_of [] = pos 0
-total_of (x ∷ xs) = x +ℤ total_of xs
-
--- an area of a cell of the air
-abbrev pub IsAirArea : ℤ → Type 0
-IsAirArea a = (pos 0 <ℤ a) × (a ≤ℤ pos (2 ^ 40))
-
 -- an air mesh has one area for each cell, and none is 0
 pub record IsAirMesh (mesh : Mesh) : Type 0 where
   pub areas : length mesh.area ≡ cell_count mesh
@@ -69,4 +59,4 @@ pub record IsAirMesh (mesh : Mesh) : Type 0 where
 pub record AreAmounts (cells : ℕ) (xs : List ℤ) : Type 0 where
   pub count : length xs ≡ cells
   pub each : All (λ x. pos 0 ≤ℤ x) xs
-  pub total : total_of xs <ℤ pos (2 ^ 62)
+  pub total : total_of xs ≤ℤ pos MOST_TOTAL

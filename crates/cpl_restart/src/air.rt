@@ -2,12 +2,12 @@
 ghost use Rattle.std.specs.Prelude.{◌≡◌, ◌≢◌, ◌<◌, ◌≤◌, ◌^◌, ◌++◌, ℕ, List, length, take, pos, IfOk};
 ghost use Rattle.std.specs.List.{position};
 ghost use Rattle.cpl_restart.specs.Numbers.{number_bytes, section_bytes, is_negative};
-ghost use Rattle.cpl_restart.specs.AirBytes.{IsAir, HasSections, Gives, air_mark, air_bytes, air_of};
+ghost use Rattle.cpl_restart.specs.AirBytes.{IsAir, HasSections, Reads, air_mark, air_bytes, air_of};
 ghost use Rattle.cpl_restart.specs.declared.air.Air.{Air as AirState};
 
 use crate::sections::{read_end, read_mark, read_section, refuse_negative, write_section};
 use crate::start_error::StartError;
-use sqlite_items::Items;
+use cpl_fixed::List;
 use std::alloc::{AllocError, Global};
 
 /// The first eight bytes of an air state.
@@ -16,13 +16,13 @@ const AIR_MARK: &[u8; 8] = b"CPLAIR01";
 /// The air alone: the heat and the vapour of each cell in whole order, none of them negative.
 #[derive(Drop)]
 pub struct Air {
-    pub heat: Items<i64>,
-    pub vapour: Items<i64>,
+    pub heat: List<i64>,
+    pub vapour: List<i64>,
 }
 
 #[tactic(auto, unfolding(crate::specs::AirBytes::air_of))]
-fn read_air(alloc: Global, cells: u32, bytes: &[u8]) -> Result<Air, StartError>
-    ensures { Gives (λ air. air) result (air_of cells bytes.now) }
+fn air_sections(alloc: Global, cells: u32, bytes: &[u8]) -> Result<Air, StartError>
+    ensures { Reads (λ air. air) result (air_of cells bytes.now) }
 {
     let sections = read_mark(AIR_MARK, bytes)?;
     let (heat, sections) = read_section(alloc, 1, cells, sections)?;
@@ -48,11 +48,11 @@ pub fn decode_air(alloc: Global, cells: u32, bytes: &[u8]) -> Result<Air, StartE
     ensures found { IfOk result (IsAir cells) }
     ensures spelled { IfOk result (λ air. bytes.now ≡ air_bytes air) }
     // What is spelled so is read, unless memory ran out.
-    ensures only { (air : AirState) → IsAir cells air → bytes.now ≡ air_bytes air → Gives (λ air. air) result (Ok air) }
+    ensures only { (air : AirState) → IsAir cells air → bytes.now ≡ air_bytes air → Reads (λ air. air) result (Ok air) }
     // Which fault it is.
-    ensures exact { Gives (λ air. air) result (air_of cells bytes.now) }
+    ensures exact { Reads (λ air. air) result (air_of cells bytes.now) }
 {
-    read_air(alloc, cells, bytes)
+    air_sections(alloc, cells, bytes)
 }
 
 /// The one spelling of an air state, as `decode_air` tells it. It has 24 bytes, and 16 for each cell.

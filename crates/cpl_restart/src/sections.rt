@@ -2,11 +2,11 @@
 // many numbers. Readers take a part from the front of the bytes, and return it with the bytes behind it.
 ghost use Rattle.std.specs.Prelude.{◌≡◌, ◌≤◌, ◌^◌, ◌++◌, length, IfOk, OnOk};
 ghost use Rattle.cpl_restart.specs.Numbers.{number_bytes, section_bytes};
-ghost use Rattle.cpl_restart.specs.Sections.{Gives, behind_mark, section_numbers, section_at, nothing_behind, no_negative};
+ghost use Rattle.cpl_restart.specs.Sections.{Reads, after_mark, section_numbers, section_at, nothing_after, no_negative};
 
 use crate::start_error::StartError;
 use byteorder::{BigEndian, ByteOrder};
-use sqlite_items::Items;
+use cpl_fixed::List;
 use std::alloc::{AllocError, Global};
 
 /// How many bytes a mark, a count or a number has.
@@ -14,7 +14,7 @@ const WORD: usize = 8;
 
 /// The bytes behind the mark: `Short` where fewer than eight bytes are there, else `Magic` where they are others.
 pub fn read_mark<'a>(mark: &[u8; WORD], bytes: &'a [u8]) -> Result<&'a [u8], StartError>
-    ensures { Gives (λ rest. rest.now) result (behind_mark mark.now bytes.now) }
+    ensures { Reads (λ rest. rest.now) result (after_mark mark.now bytes.now) }
 {
     if bytes.len() < WORD {
         return Err(StartError::Short);
@@ -27,8 +27,8 @@ pub fn read_mark<'a>(mark: &[u8; WORD], bytes: &'a [u8]) -> Result<&'a [u8], Sta
 }
 
 /// The next `count` numbers: `Short` where they aren't all there. Memory is asked for once they are.
-fn read_numbers(alloc: Global, count: u32, bytes: &[u8]) -> Result<(Items<i64>, &[u8]), StartError>
-    ensures exact { Gives (λ x. (x.0, x.1.now)) result (section_numbers count bytes.now) }
+fn read_numbers(alloc: Global, count: u32, bytes: &[u8]) -> Result<(List<i64>, &[u8]), StartError>
+    ensures exact { Reads (λ x. (x.0, x.1.now)) result (section_numbers count bytes.now) }
     ensures count { IfOk result (λ x. length x.0 ≡ count) }
 {
     let size = WORD * count as usize;
@@ -38,7 +38,7 @@ fn read_numbers(alloc: Global, count: u32, bytes: &[u8]) -> Result<(Items<i64>, 
     let (front, rest) = bytes.split_at(size);
     let mut numbers = vec![in alloc; 0i64; count as usize]?;
     BigEndian::read_i64_into(front, &mut numbers);
-    Ok((Items::from_vec(numbers), rest))
+    Ok((List::from_vec(numbers), rest))
 }
 
 /// The numbers of the next section, which has the number `section` in its file: `Short` where its count or its numbers
@@ -48,8 +48,8 @@ pub fn read_section(
     section: u32,
     count: u32,
     bytes: &[u8],
-) -> Result<(Items<i64>, &[u8]), StartError>
-    ensures exact { Gives (λ x. (x.0, x.1.now)) result (section_at section count bytes.now) }
+) -> Result<(List<i64>, &[u8]), StartError>
+    ensures exact { Reads (λ x. (x.0, x.1.now)) result (section_at section count bytes.now) }
     ensures count { IfOk result (λ x. length x.0 ≡ count) }
 {
     if bytes.len() < WORD {
@@ -64,7 +64,7 @@ pub fn read_section(
 
 /// `Trailing` where bytes are left.
 pub fn read_end(bytes: &[u8]) -> Result<(), StartError>
-    ensures { Gives (λ x. x) result (nothing_behind bytes.now) }
+    ensures { Reads (λ x. x) result (nothing_after bytes.now) }
 {
     match bytes {
         [] => Ok(()),
@@ -75,7 +75,7 @@ pub fn read_end(bytes: &[u8]) -> Result<(), StartError>
 /// `Negative` with the first negative number of a section.
 pub fn refuse_negative(section: u32, numbers: &[i64]) -> Result<(), StartError>
     requires { length numbers.now ≤ 2 ^ 32 }
-    ensures { Gives (λ x. x) result (no_negative section numbers.now) }
+    ensures { Reads (λ x. x) result (no_negative section numbers.now) }
 {
     match numbers.iter().position(|x| *x < 0) {
         None => Ok(()),

@@ -1,6 +1,6 @@
-pub mod Flows
 pub mod Sums
 pub mod Exchange
 pub mod Mates
 pub mod Conserved
-pub mod Around
+pub mod Between
+pub mod Across

@@ -1,3 +1,2 @@
-pub mod Flows
-pub mod Neighbours
-pub mod Shared
+pub mod Across
+pub mod Steps

@@ -1,116 +1,125 @@
 // A step of the diffusion.
-ghost use Rattle.std.specs.Prelude.{ℕ, ◌≡◌, ◌<◌, ◌≤◌, ◌^◌, length, pos, ◌<ℤ◌, ◌-ℤ◌};
-ghost use Rattle.cpl_mosaic.specs.declared.parts.Side.TheVariants.{W, S};
-ghost use Rattle.cpl_restart.specs.Diffusion.{AreAmounts, IsAirMesh, at, cell_count, diffused, flow_through, total_of};
-ghost use Rattle.cpl_whole.specs.Flows.{between};
-ghost use Rattle.cpl_whole.specs.Neighbours.{AreNeighbours};
-ghost use Rattle.cpl_whole.specs.Shared.{IsEastLoss, LiesNorth};
+ghost use Rattle.std.specs.Prelude.{ℕ, ◌≡◌, ◌<◌, length, IfOk};
+ghost use Rattle.cpl_mosaic.specs.declared.parts.Side.TheVariants.{W, E, S, N};
+ghost use Rattle.cpl_restart.specs.Diffusion.{AreAmounts, at, cell_count, diffused, total_of};
+ghost use Rattle.cpl_whole.specs.Across.{AreFacesAlong};
+ghost use Rattle.cpl_whole.specs.Steps.{AreFaces, IsRoom, IsSmall, flow_next, flow_previous, left_in};
 
-use crate::flow::flow_between;
-use crate::neighbours::Neighbours;
+use crate::faces::Faces;
+use cpl_fixed::{flow_between, flow_with};
 use cpl_mosaic::Mesh;
+use std::alloc::{AllocError, Global};
 use std::mem;
 
-// What flows out of the n-th cell into another.
-fn flow_into(mesh: &Mesh, amounts: &[i64], n: usize, other: u32) -> i64
-    requires mesh { IsAirMesh mesh.now }
-    requires amounts { AreAmounts (cell_count mesh.now) amounts.now }
-    requires within { n < cell_count mesh.now }
-    requires other { other < cell_count mesh.now }
-    ensures value { result ≡ between mesh.now amounts.now n other }
-    ensures low { (pos 0 -ℤ pos (2 ^ 59)) <ℤ result }
-    ensures high { result <ℤ pos (2 ^ 59) }
+// What flows out of the n-th cell into the next.
+#[inline]
+fn next_flow(area: &[i64], amounts: &[i64], faces: &[Faces], n: usize) -> i64
+    requires faces { AreFaces area.now faces.now }
+    requires amounts { AreAmounts (length area.now) amounts.now }
+    requires within { n < length area.now }
+    ensures value { result ≡ flow_next area.now amounts.now faces.now n }
+    ensures small { IsSmall result }
 {
-    let area = mesh.area.as_slice();
-    let other = other as usize;
-    flow_between(amounts[n], area[n], amounts[other], area[other])
+    let Faces { next, divisor, .. } = faces[n];
+    let next = next as usize;
+    flow_with(divisor, amounts[n], area[n], amounts[next], area[next])
 }
 
-// What the n-th cell loses through its west side. `east` is what the cell before it lost through its east side: where these
-// two sides meet it is the same flow, and isn't taken again.
-fn west_loss(mesh: &Mesh, neighbours: &[Neighbours], amounts: &[i64], n: usize, east: i64) -> i64
-    requires neighbours { AreNeighbours mesh.now neighbours.now }
-    requires amounts { AreAmounts (cell_count mesh.now) amounts.now }
-    requires within { n < cell_count mesh.now }
-    requires east { IsEastLoss mesh.now amounts.now n east }
-    ensures { result ≡ flow_through mesh.now amounts.now n W }
+// What flows out of the n-th cell into the previous one. `flows` are the flows into the next cells, of the cells before the
+// n-th: where the flow between the two was taken there, it is the same the other way.
+#[inline]
+fn previous_flow(area: &[i64], amounts: &[i64], faces: &[Faces], flows: &[i64], n: usize) -> i64
+    requires faces { AreFaces area.now faces.now }
+    requires amounts { AreAmounts (length area.now) amounts.now }
+    requires within { n < length area.now }
+    requires count { length flows.now ≡ length area.now }
+    requires flows { (k : ℕ) → k < n → at flows.now k ≡ flow_next area.now amounts.now faces.now k }
+    ensures value { result ≡ flow_previous area.now amounts.now faces.now n }
+    ensures small { IsSmall result }
 {
-    let west = neighbours[n].west;
-    if west as usize + 1 == n && neighbours[west as usize].east as usize == n {
-        -east
+    let previous = faces[n].previous as usize;
+    if previous < n {
+        -flows[previous]
     } else {
-        flow_into(mesh, amounts, n, west)
+        let cell = previous - area.len();
+        flow_between(amounts[n], area[n], amounts[cell], area[cell])
     }
 }
 
-// What the n-th cell loses through its south side. `handed` is that loss, where an earlier cell handed it on.
-fn south_loss(mesh: &Mesh, neighbours: &[Neighbours], amounts: &[i64], n: usize, handed: i64) -> i64
-    requires neighbours { AreNeighbours mesh.now neighbours.now }
-    requires amounts { AreAmounts (cell_count mesh.now) amounts.now }
-    requires within { n < cell_count mesh.now }
-    requires handed { (south : ℕ) → south < n → LiesNorth mesh.now.mosaic n south → handed ≡ flow_through mesh.now amounts.now n S }
-    ensures { result ≡ flow_through mesh.now amounts.now n S }
-{
-    let south = neighbours[n].south;
-    if (south as usize) < n && neighbours[south as usize].north as usize == n {
-        handed
-    } else {
-        flow_into(mesh, amounts, n, south)
-    }
-}
-
-// Hands its loss through its south side on to the cell north of the n-th, where it comes later and the two sides meet.
-fn hand_on(mesh: &Mesh, neighbours: &[Neighbours], n: usize, loss: i64, losses: &mut [i64])
-    requires neighbours { AreNeighbours mesh.now neighbours.now }
-    requires within { n < cell_count mesh.now }
-    requires losses { length losses.old ≡ cell_count mesh.now }
-    ensures count { length losses.new ≡ cell_count mesh.now }
-    ensures handed { (k : ℕ) → n < k → LiesNorth mesh.now.mosaic k n → at losses.new k ≡ loss }
-    ensures others { (k : ℕ) → (LiesNorth mesh.now.mosaic k n → ⊥) → at losses.new k ≡ at losses.old k }
-    ensures earlier { (k : ℕ) → k ≤ n → at losses.new k ≡ at losses.old k }
-{
-    let north = neighbours[n].north as usize;
-    if north > n && neighbours[north].south as usize == n {
-        losses[north] = loss;
-    }
-}
-
-// The amounts after a step over all sides at once, from those before it. The flow between two cells is taken at the first of
-// them. Until a cell's turn comes, its place in `after` holds what it loses through its south side.
-fn step(mesh: &Mesh, neighbours: &[Neighbours], before: &[i64], after: &mut [i64])
-    requires neighbours { AreNeighbours mesh.now neighbours.now }
-    requires before { AreAmounts (cell_count mesh.now) before.now }
-    requires after { length after.old ≡ cell_count mesh.now }
-    ensures { after.new ≡ diffused mesh.now before.now }
-{
-    let mut east = 0;
-    for n in 0..neighbours.len() {
-        let around = neighbours[n];
-        let west = west_loss(mesh, neighbours, before, n, east);
-        let handed = after[n];
-        let south = south_loss(mesh, neighbours, before, n, handed);
-        east = flow_into(mesh, before, n, around.east);
-        let north = flow_into(mesh, before, n, around.north);
-        after[n] = before[n] - (west + east + south + north);
-        hand_on(mesh, neighbours, n, -north, after);
-    }
-}
-
-/// Takes the amounts one step further, over all sides at once. `spare` is a second list of as many numbers, whatever they are.
-pub(crate) fn diffuse(
-    mesh: &Mesh,
-    neighbours: &[Neighbours],
-    amounts: &mut Vec<i64>,
-    spare: &mut Vec<i64>,
+// What is left in each cell after a step over all faces at once. The flows into the next cells are kept for these cells.
+fn step(
+    area: &[i64],
+    east: &[Faces],
+    north: &[Faces],
+    before: &[i64],
+    after: &mut [i64],
+    eastward: &mut [i64],
+    northward: &mut [i64],
 )
-    requires neighbours { AreNeighbours mesh.now neighbours.now }
+    requires east { AreFaces area.now east.now }
+    requires north { AreFaces area.now north.now }
+    requires before { AreAmounts (length area.now) before.now }
+    requires after { length after.old ≡ length area.now }
+    requires eastward { length eastward.old ≡ length area.now }
+    requires northward { length northward.old ≡ length area.now }
+    ensures { (n : ℕ) → n < length area.now → at after.new n ≡ left_in area.now before.now east.now north.now n }
+{
+    for n in 0..before.len() {
+        let to_east = next_flow(area, before, east, n);
+        let to_west = previous_flow(area, before, east, eastward, n);
+        let to_north = next_flow(area, before, north, n);
+        let to_south = previous_flow(area, before, north, northward, n);
+        eastward[n] = to_east;
+        northward[n] = to_north;
+        after[n] = before[n] - (to_east + to_west + to_north + to_south);
+    }
+}
+
+/// The faces of all cells, eastward and northward.
+#[derive(Drop)]
+pub(crate) struct Ways {
+    pub(crate) east: Vec<Faces>,
+    pub(crate) north: Vec<Faces>,
+}
+
+/// Room for a step: what flows eastward and northward out of each cell, and what is left in it.
+#[derive(Drop)]
+pub(crate) struct Room {
+    pub(crate) eastward: Vec<i64>,
+    pub(crate) northward: Vec<i64>,
+    pub(crate) after: Vec<i64>,
+}
+
+/// Room for a step over as many cells.
+pub(crate) fn make_room(alloc: Global, cells: usize) -> Result<Room, AllocError>
+    ensures { IfOk result (λ room. IsRoom cells room) }
+{
+    Ok(Room {
+        eastward: vec![in alloc; 0; cells]?,
+        northward: vec![in alloc; 0; cells]?,
+        after: vec![in alloc; 0; cells]?,
+    })
+}
+
+/// Takes the amounts one step further, over all sides at once.
+pub(crate) fn diffuse(mesh: &Mesh, ways: &Ways, amounts: &mut Vec<i64>, room: &mut Room)
+    requires east { AreFacesAlong mesh.now E W ways.now.east.items }
+    requires north { AreFacesAlong mesh.now N S ways.now.north.items }
     requires amounts { AreAmounts (cell_count mesh.now) amounts.old.items }
-    requires spare { length spare.old.items ≡ cell_count mesh.now }
+    requires room { IsRoom (cell_count mesh.now) room.old }
     ensures amounts { amounts.new.items ≡ diffused mesh.now amounts.old.items }
     ensures range { AreAmounts (cell_count mesh.now) amounts.new.items }
     ensures total { total_of amounts.new.items ≡ total_of amounts.old.items }
-    ensures spare { length spare.new.items ≡ cell_count mesh.now }
+    ensures room { IsRoom (cell_count mesh.now) room.new }
 {
-    step(mesh, neighbours, amounts.as_slice(), spare.as_mut_slice());
-    mem::swap(amounts, spare);
+    step(
+        mesh.area.as_slice(),
+        ways.east.as_slice(),
+        ways.north.as_slice(),
+        amounts.as_slice(),
+        room.after.as_mut_slice(),
+        room.eastward.as_mut_slice(),
+        room.northward.as_mut_slice(),
+    );
+    mem::swap(amounts, &mut room.after);
 }

@@ -2,8 +2,7 @@
 #![tactic(auto)]
 
 mod diffuse;
-mod flow;
-mod neighbours;
+mod faces;
 mod solo;
 
 pub use solo::run_solo;

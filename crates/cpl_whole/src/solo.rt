@@ -2,19 +2,12 @@
 ghost use Rattle.std.specs.Prelude.{◌≡◌, IfOk};
 ghost use Rattle.cpl_restart.specs.Diffusion.{IsAirMesh, AreAmounts, cell_count, air_after, total_of};
 
-use crate::diffuse::diffuse;
-use crate::neighbours::all_neighbours;
-use cpl_mosaic::Mesh;
+use crate::diffuse::{Ways, diffuse, make_room};
+use crate::faces::all_faces;
+use cpl_fixed::List;
+use cpl_mosaic::{Mesh, Side};
 use cpl_restart::Air;
-use sqlite_items::Items;
 use std::alloc::{AllocError, Global};
-
-// The numbers of a list, in memory of their own. The list's is freed.
-fn into_vec(alloc: Global, items: Items<i64>) -> Result<Vec<i64>, AllocError>
-    ensures { IfOk result (λ numbers. numbers.items ≡ items) }
-{
-    Vec::from_slice(alloc, items.as_slice())
-}
 
 /// Runs the air alone for `n` steps: heat and vapour flow between all cells whose sides meet, all sides at once, toward equal
 /// amounts for each unit of area. Nothing is made or lost, and no amount falls below 0.
@@ -33,18 +26,24 @@ pub fn run_solo(alloc: Global, mesh: &Mesh, air: Air, n: u32) -> Result<Air, All
     ensures heat { IfOk result (λ last. AreAmounts (cell_count mesh.now) last.heat) }
     ensures vapour { IfOk result (λ last. AreAmounts (cell_count mesh.now) last.vapour) }
 {
-    let neighbours = all_neighbours(alloc, mesh)?;
-    let cells = neighbours.len();
+    // Without a step no faces are wanted.
+    if n == 0 {
+        return Ok(air);
+    }
+    let ways = Ways {
+        east: all_faces(alloc, mesh, Side::E, Side::W)?,
+        north: all_faces(alloc, mesh, Side::N, Side::S)?,
+    };
+    let mut room = make_room(alloc, ways.east.len())?;
     let Air { heat, vapour } = air;
-    let mut heat = into_vec(alloc, heat)?;
-    let mut vapour = into_vec(alloc, vapour)?;
-    let mut spare = vec![in alloc; 0; cells]?;
+    let mut heat = heat.into_vec();
+    let mut vapour = vapour.into_vec();
     for _step in 0..n {
-        diffuse(mesh, neighbours.as_slice(), &mut heat, &mut spare);
-        diffuse(mesh, neighbours.as_slice(), &mut vapour, &mut spare);
+        diffuse(mesh, &ways, &mut heat, &mut room);
+        diffuse(mesh, &ways, &mut vapour, &mut room);
     }
     Ok(Air {
-        heat: Items::from_vec(heat),
-        vapour: Items::from_vec(vapour),
+        heat: List::from_vec(heat),
+        vapour: List::from_vec(vapour),
     })
 }

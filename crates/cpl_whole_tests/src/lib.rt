@@ -1,4 +1,4 @@
-//! Worked cases of the undivided run of the air alone.
+//! Worked cases of the air alone, undivided and in pieces.
 #![tactic(auto)]
 
 #[cfg(test)]

@@ -1,13 +1,15 @@
 // Runs that the tests share, which look before they ask.
-ghost use Rattle.std.specs.Prelude.{[], ◌∷◌, All, length};
+ghost use Rattle.std.specs.Prelude.{[], ◌∷◌, All, length, IfOk};
 ghost use Rattle.std.specs.Bool.{OnTrue};
 ghost use Rattle.cpl_mosaic.specs.Contacts.{AreTiles};
-ghost use Rattle.cpl_restart.specs.Diffusion.{AreAmounts, IsAirArea};
+ghost use Rattle.cpl_restart.specs.Diffusion.{AreAmounts, IsAirArea, IsAirMesh, cell_count};
 
+use cpl_divided::run_divided;
+use cpl_fixed::List;
+use cpl_layout::Layout;
 use cpl_mosaic::{Contact, Mesh, Mosaic, Tile};
 use cpl_restart::Air;
 use cpl_whole::run_solo;
-use sqlite_items::Items;
 use std::alloc::{AllocError, Global};
 
 /// The greatest total of a run, and the greatest area of a cell.
@@ -48,16 +50,19 @@ fn are_amounts(amounts: &[i64]) -> bool
     true
 }
 
-/// The heat and the vapour of the cells of one tile after n steps. Input that isn't lawful counts as no memory here.
-pub(crate) fn run(
+// A mesh of one tile, and an air on it. Input that isn't valid counts as no memory here.
+fn made(
     alloc: Global,
     shape: (u32, u32),
     contacts: &[Contact],
     area: &[i64],
     heat: &[i64],
     vapour: &[i64],
-    n: u32,
-) -> Result<Air, AllocError> {
+) -> Result<(Mesh, Air), AllocError>
+    ensures mesh { IfOk result (λ made. IsAirMesh made.0) }
+    ensures heat { IfOk result (λ made. AreAmounts (cell_count made.0) made.1.heat) }
+    ensures vapour { IfOk result (λ made. AreAmounts (cell_count made.0) made.1.vapour) }
+{
     let tile = Tile {
         nx: shape.0,
         ny: shape.1,
@@ -79,11 +84,46 @@ pub(crate) fn run(
     }
     let mesh = Mesh {
         mosaic,
-        area: Items::from_slice(alloc, area)?,
+        area: List::from_vec(Vec::from_slice(alloc, area)?),
     };
     let air = Air {
-        heat: Items::from_slice(alloc, heat)?,
-        vapour: Items::from_slice(alloc, vapour)?,
+        heat: List::from_vec(Vec::from_slice(alloc, heat)?),
+        vapour: List::from_vec(Vec::from_slice(alloc, vapour)?),
     };
+    Ok((mesh, air))
+}
+
+/// The heat and the vapour of the cells of one tile after n steps. Input that isn't valid counts as no memory here.
+pub(crate) fn run(
+    alloc: Global,
+    shape: (u32, u32),
+    contacts: &[Contact],
+    area: &[i64],
+    heat: &[i64],
+    vapour: &[i64],
+    n: u32,
+) -> Result<Air, AllocError> {
+    let (mesh, air) = made(alloc, shape, contacts, area, heat, vapour)?;
     run_solo(alloc, &mesh, air, n)
+}
+
+/// The same in pieces. A layout that doesn't fit counts as no memory too.
+pub(crate) fn run_in_pieces(
+    alloc: Global,
+    pieces: (u32, u32),
+    shape: (u32, u32),
+    contacts: &[Contact],
+    heat: &[i64],
+    n: u32,
+) -> Result<Air, AllocError> {
+    let (px, py) = pieces;
+    if px == 0 || px > 64 || py == 0 || py > 64 {
+        return Err(AllocError);
+    }
+    let area = vec![in alloc; 1; heat.len()]?;
+    let (mesh, air) = made(alloc, shape, contacts, &area, heat, heat)?;
+    let Ok(layout) = Layout::new(alloc, &mesh.mosaic, px, py) else {
+        return Err(AllocError);
+    };
+    run_divided(alloc, &mesh, &layout, air, n)
 }

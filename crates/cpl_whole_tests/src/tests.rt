@@ -1,4 +1,4 @@
-use crate::runs::run;
+use crate::runs::{run, run_in_pieces};
 use cpl_mosaic::Side::{E, N, W};
 use cpl_mosaic::{Contact, Side, Span};
 use std::test::Fail;
@@ -118,5 +118,17 @@ fn flows_follow_contacts(rt: HostRuntime) -> Result<(), Fail> {
         1,
     )?;
     assert_eq!(rt; two.heat.as_slice(), [88, 12].as_slice());
+    Ok(())
+}
+
+#[test]
+fn a_layout_changes_nothing(rt: HostRuntime) -> Result<(), Fail> {
+    // A fold of 4 cells: the first meets the last across it. 100 / 16 is 6 to each of two neighbours.
+    let fold = [contact((N, 0, 3), (N, 0, 3), true)];
+    for pieces in [(1, 1), (2, 1), (4, 1)] {
+        let last = run_in_pieces(rt.alloc(), pieces, (4, 1), &fold, &[100, 0, 0, 0], 1)?;
+        assert_eq!(rt; last.heat.as_slice(), [88, 6, 0, 6].as_slice());
+        assert_eq!(rt; last.vapour.as_slice(), [88, 6, 0, 6].as_slice());
+    }
     Ok(())
 }

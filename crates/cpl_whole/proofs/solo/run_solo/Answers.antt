@@ -2,7 +2,9 @@ use Rattle.std.proofs.Common.{◌≡◌, ◌∙◌, sym, subst, ap, ℕ, ◌+◌
 use Rattle.cpl_restart.specs.Diffusion.{AreAmounts, cell_count, diffused, diffused_by, total_of}
 use Rattle.cpl_mosaic.specs.declared.mosaic.Mesh.{Mesh}
 use Rattle.std.specs.Prelude.{ℤ, List}
-use Rattle.cpl_whole.proofs.Around.{length_table}
+use Rattle.cpl_mosaic.specs.declared.parts.Side.TheVariants.{W, E}
+use Rattle.cpl_whole.specs.Steps.{IsRoom}
+use Rattle.cpl_whole.proofs.Across.{length_faces}
 use Rattle.cpl_whole.proofs.solo.run_solo.Goals as goal
 
 -- one step more
@@ -11,13 +13,15 @@ diffused_more mesh n xs now next so_far step = step ∙ ap (diffused mesh) so_fa
 
 pub loop-step-init : goal.loop-step-init
 loop-step-init c = record {
-  heat = c.in_ok-heat.ensures;
-  vapour = c.in_ok-vapour.ensures;
-  heat_range = subst (AreAmounts (cell_count c.args.mesh.now)) (sym c.in_ok-heat.ensures) c.requires.heat;
-  vapour_range = subst (AreAmounts (cell_count c.args.mesh.now)) (sym c.in_ok-vapour.ensures) c.requires.vapour;
-  heat_total = ap total_of c.in_ok-heat.ensures;
-  vapour_total = ap total_of c.in_ok-vapour.ensures;
-  spare = omega (arith, c.in_ok-spare.ensures.len, c.len-cells.ensures, length_table c.args.mesh.now c.in_ok-neighbours.neighbours.items c.in_ok-neighbours.ensures);
+  heat = c.into_vec-heat.ensures;
+  vapour = c.into_vec-vapour.ensures;
+  heat_range = subst (AreAmounts (cell_count c.args.mesh.now)) (sym c.into_vec-heat.ensures) c.requires.heat;
+  vapour_range = subst (AreAmounts (cell_count c.args.mesh.now)) (sym c.into_vec-vapour.ensures) c.requires.vapour;
+  heat_total = ap total_of c.into_vec-heat.ensures;
+  vapour_total = ap total_of c.into_vec-vapour.ensures;
+  room =
+      let cells : c.len.result ≡ cell_count c.args.mesh.now = omega (arith, c.len.ensures, length_faces c.args.mesh.now E W c.in_ok-all_faces.field-0.items c.in_ok-all_faces.ensures) in
+      subst (λ n. IsRoom n c.in_ok-room.room) cells c.in_ok-room.ensures;
 }
 
 pub loop-step-preserved : goal.loop-step-preserved
@@ -28,7 +32,7 @@ loop-step-preserved c = record {
   vapour_range = c.diffuse-in-loop-step.ensures.range;
   heat_total = c.diffuse.ensures.total ∙ c.loop-step.invariant.heat_total;
   vapour_total = c.diffuse-in-loop-step.ensures.total ∙ c.loop-step.invariant.vapour_total;
-  spare = c.diffuse-in-loop-step.ensures.spare;
+  room = c.diffuse-in-loop-step.ensures.room;
 }
 
 pub returns : goal.returns

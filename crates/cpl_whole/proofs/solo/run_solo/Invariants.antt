@@ -1,5 +1,6 @@
-use Rattle.std.proofs.Common.{◌≡◌, length}
+use Rattle.std.proofs.Common.{◌≡◌}
 use Rattle.cpl_restart.specs.Diffusion.{AreAmounts, cell_count, diffused_by, total_of}
+use Rattle.cpl_whole.specs.Steps.{IsRoom}
 use Rattle.cpl_whole.proofs.solo.run_solo.Given as goal
 
 abbrev pub invariant-loop-step : goal.invariant-loop-step
@@ -10,5 +11,5 @@ invariant-loop-step l = record {
   vapour_range : AreAmounts (cell_count l.mesh) l.vapour.items;
   heat_total : total_of l.heat.items ≡ total_of l.fn.air.heat;
   vapour_total : total_of l.vapour.items ≡ total_of l.fn.air.vapour;
-  spare : length l.spare.items ≡ cell_count l.mesh;
+  room : IsRoom (cell_count l.mesh) l.room;
 }

@@ -1,6 +1,6 @@
-use Rattle.std.proofs.Common.{◌≡◌, ◌∙◌, ℕ, sym, ap, get_or, length, take, pos, rules, arith, to_z, of_z, w64}
+use Rattle.std.proofs.Common.{◌∙◌, ap, get_or, pos, rules, arith, to_z, of_z, w64}
 use mir.Val.{SFits}
-use Rattle.std.specs.Prelude.{ℤ, ◌≤ℤ◌, ◌+ℤ◌, ◌-ℤ◌}
+use Rattle.std.specs.Prelude.{◌≤ℤ◌, ◌-ℤ◌}
 use Rattle.std.proofs.lemmas.Int.{ints}
 use Rattle.std.proofs.lemmas.List.{take_all}
 use Rattle.cpl_restart.specs.Diffusion.{total_of}

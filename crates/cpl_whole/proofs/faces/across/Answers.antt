@@ -1,7 +1,7 @@
 use Rattle.std.proofs.Common.{subst, sym}
 use Rattle.cpl_mosaic.specs.declared.parts.CellId.{CellId}
 use Rattle.cpl_mosaic.specs.Sides.{IsCellOf}
-use Rattle.cpl_whole.proofs.neighbours.behind.Goals as goal
+use Rattle.cpl_whole.proofs.faces.across.Goals as goal
 
 pub number-requires : goal.number-requires
 number-requires c =
