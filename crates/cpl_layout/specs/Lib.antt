@@ -1,0 +1,4 @@
+pub mod Extents
+pub mod Layouts
+pub mod Pieces
+pub mod Owners

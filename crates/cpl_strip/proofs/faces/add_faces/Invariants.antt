@@ -1,0 +1,7 @@
+use Rattle.cpl_layout.specs.Pieces.{pieces_of}
+use Rattle.cpl_strip.specs.Tables.{IsFilled}
+use Rattle.cpl_strip.specs.Taken.{side_takes, holes_in}
+use Rattle.cpl_strip.proofs.faces.add_faces.Given as goal
+
+abbrev pub invariant-loop-m : goal.invariant-loop-m
+invariant-loop-m l = IsFilled (side_takes l.mosaic l.layout) (holes_in l.layout 1) (pieces_of l.layout) l.to l.m l.table

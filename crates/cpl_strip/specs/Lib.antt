@@ -1,0 +1,7 @@
+pub mod Orders
+pub mod Holes
+pub mod Strips
+pub mod Faces
+pub mod Tables
+pub mod Rounds
+pub mod Taken

@@ -1,0 +1,12 @@
+//! Strips: which cells of which pieces the holes and the faces along the edges of a piece take their numbers from.
+#![tactic(auto)]
+
+mod faces;
+mod halos;
+mod holes;
+mod parts;
+mod table;
+
+pub use faces::face_strips;
+pub use halos::strips;
+pub use parts::{FaceStrip, Hole, Strip};
