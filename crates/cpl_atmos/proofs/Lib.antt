@@ -1,0 +1,5 @@
+pub mod Stored
+pub mod Divisors
+pub mod Swept
+pub mod Carried
+pub mod Finished

@@ -1,0 +1,3 @@
+pub mod Faces
+pub mod Rows
+pub mod Sweeps
