@@ -1,0 +1,5 @@
+pub mod Amounts
+pub mod Totals
+pub mod Choices
+pub mod Keeps
+pub mod Steps
