@@ -1,4 +1,4 @@
-//! The program `coupler`: the words behind its name, real files and standard output in, an exit status out.
+//! The program `coupler`: the words after its name, real files and standard output in, an exit status out.
 //! All that it does is `cpl_top`'s.
 #![tactic(auto)]
 
@@ -22,7 +22,7 @@ fn no_words(error: &io::Error) -> Status
     }
 }
 
-// Does what the words behind the program's name say, on real files and standard output. These tell nothing of what they hold,
+// Does what the words after the program's name say, on real files and standard output. These tell nothing of what they hold,
 // so that no clause can: what is proved of the answer is `still_top`'s.
 fn run(rt: &(impl Env + Files + Print + AllocGlobal)) -> Status {
     let args = match env::args(rt) {
@@ -37,17 +37,18 @@ fn run(rt: &(impl Env + Files + Print + AllocGlobal)) -> Status {
     still_top(rt.alloc(), words.as_slice(), &mut shelf, &mut out)
 }
 
-// The number that the process ends with.
-fn exit_code(status: Status) -> ExitCode
+// Tells standard error why not all was done, and answers the number that the process ends with. No clause can say what a
+// terminal was given: that the text goes there exactly where not all was done is tried by running the program.
+fn finish(rt: &impl Eprint, status: Status) -> ExitCode
     ensures { exit_status result ≡ status_number status }
 {
+    if status != Status::Done {
+        let _ = eprintln!(rt; "coupler: {status}");
+    }
     ExitCode::from(status.number())
 }
 
 fn main(rt: HostRuntime) -> ExitCode {
     let status = run(&rt);
-    if status != Status::Done {
-        let _ = eprintln!(rt; "coupler: {status}");
-    }
-    exit_code(status)
+    finish(&rt, status)
 }

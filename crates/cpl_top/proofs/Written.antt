@@ -6,7 +6,7 @@ use Rattle.std.specs.FinMap.{get}
 use Rattle.std.proofs.lemmas.List.Elements.{All-more, All-nil}
 use Rattle.cpl_io.specs.Files.{Files, Has, OthersStand}
 use Rattle.cpl_top.specs.Leaves.{AreWritten}
-use Rattle.cpl_top.specs.Outcomes.{AreApart}
+use Rattle.cpl_top.specs.Replies.{AreApart}
 use Rattle.cpl_top.specs.declared.output.Output.{Output}
 
 within : {X : Type 0} (xs : List X) (n i : ℕ) → i < n → i < length xs → i < length (take n xs)

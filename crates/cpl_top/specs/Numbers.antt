@@ -9,6 +9,7 @@ status_number status.Usage = 1
 status_number (status.Read file) = 2
 status_number (status.TooLong file) = 3
 status_number (status.Grid fault) = 4
+status_number (status.Names fault) = 5
 status_number (status.Start fault) = 6
 status_number (status.Budget quantity total) = 7
 status_number (status.Write file) = 8

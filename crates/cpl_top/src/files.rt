@@ -1,32 +1,27 @@
-// The files of a command.
-ghost use Rattle.std.specs.Prelude.{◌≡◌, ◌≤◌, ℕ, Some, IsTrue, IsErrOf, IfErr};
-ghost use Rattle.cpl_io.specs.Causes.{Rose, Reading};
-ghost use Rattle.cpl_io.specs.Files.{bytes_of};
-ghost use Rattle.cpl_top.specs.Answer.{file_bytes};
-ghost use Rattle.cpl_top.specs.Causes.{Answers, IsReadRefusal};
-ghost use Rattle.cpl_top.specs.declared.status.Which.{Which};
+// The files that a command reads.
+ghost use Rattle.std.specs.Prelude.{IfOk, IfErr};
+ghost use Rattle.cpl_top.specs.Limits.{limit_of};
+ghost use Rattle.cpl_top.specs.Reads.{AreBytes, IsUnread, NoneFailed, OnlyReads};
 
 use crate::{Status, Which};
 use cpl_io::{ReadError, Shelf, read_whole};
 use std::alloc::Global;
 
 /// The bytes of a file of the command, of which there may be at most `limit`.
-pub fn read_file<S: Shelf>(
+pub(crate) fn read_within<S: Shelf>(
     alloc: Global,
     shelf: &mut S,
     file: Which,
     limit: u64,
     name: &str,
 ) -> Result<Vec<u8>, Status>
-    ensures told { S.told shelf.new ≡ S.told shelf.old }
-    ensures files { S.files shelf.new ≡ S.files shelf.old }
-    ensures later { S.faults shelf.old ≤ S.faults shelf.new }
-    ensures bytes { IsTrue (S.told shelf.old)
-        → Answers (λ v. v.items) result (file_bytes file limit (bytes_of (S.files shelf.old) name.now)) }
-    ensures read { (other : Which) → IsErrOf result (Status.Read other)
-        → (other ≡ file) × Rose (S.faults shelf.old) (S.faults shelf.new)
-        × (S.failed shelf.new ≡ Some (Reading name.now)) }
-    ensures own { IfErr result IsReadRefusal }
+    ensures only_reads { OnlyReads S.told S.files S.faults shelf.old shelf.new }
+    ensures bytes { IfOk result (λ bytes.
+        AreBytes (S.told shelf.old) (S.files shelf.old) name.now limit bytes.items) }
+    ensures quiet { IfOk result (λ bytes.
+        NoneFailed (S.faults shelf.old) (S.faults shelf.new) (S.failed shelf.old) (S.failed shelf.new)) }
+    ensures refusal { IfErr result (IsUnread (S.told shelf.old) (S.files shelf.old) file name.now limit
+        (S.faults shelf.old) (S.faults shelf.new) (S.failed shelf.old) (S.failed shelf.new)) }
 {
     match read_whole(alloc, shelf, name, limit) {
         Ok(bytes) => Ok(bytes),
@@ -34,4 +29,22 @@ pub fn read_file<S: Shelf>(
         Err(ReadError::TooLong) => Err(Status::TooLong(file)),
         Err(ReadError::Memory) => Err(Status::Memory),
     }
+}
+
+/// The bytes of a file of the command, of which there may be as many as its kind allows.
+pub(crate) fn read_file<S: Shelf>(
+    alloc: Global,
+    shelf: &mut S,
+    file: Which,
+    name: &str,
+) -> Result<Vec<u8>, Status>
+    ensures only_reads { OnlyReads S.told S.files S.faults shelf.old shelf.new }
+    ensures bytes { IfOk result (λ bytes.
+        AreBytes (S.told shelf.old) (S.files shelf.old) name.now (limit_of file) bytes.items) }
+    ensures quiet { IfOk result (λ bytes.
+        NoneFailed (S.faults shelf.old) (S.faults shelf.new) (S.failed shelf.old) (S.failed shelf.new)) }
+    ensures refusal { IfErr result (IsUnread (S.told shelf.old) (S.files shelf.old) file name.now (limit_of file)
+        (S.faults shelf.old) (S.faults shelf.new) (S.failed shelf.old) (S.failed shelf.new)) }
+{
+    read_within(alloc, shelf, file, file.limit(), name)
 }

@@ -2,16 +2,16 @@
 ghost use Rattle.std.specs.Prelude.{◌≡◌, string_bytes};
 
 use crate::Which;
-use sqlite_items::Items;
+use cpl_fixed::List;
 use std::marker::Model;
 
 /// A file's name, which contracts see as its bytes.
 #[derive(Drop)]
-pub struct Name {
+pub struct FileName {
     text: String,
 }
 
-impl Model for Name {
+impl Model for FileName {
     ghost use Rattle.std.specs.Prelude.{ℕ, List, string_bytes};
 
     ghost Value = { List ℕ };
@@ -19,12 +19,12 @@ impl Model for Name {
     ghost view = { λ a. string_bytes a.text };
 }
 
-impl Name {
+impl FileName {
     /// The name that a text is.
-    pub fn new(text: String) -> Name
+    pub fn new(text: String) -> FileName
         ensures { result ≡ string_bytes text }
     {
-        Name { text }
+        FileName { text }
     }
 
     /// The name as a text.
@@ -39,13 +39,13 @@ impl Name {
 #[derive(Drop)]
 pub struct Output {
     pub which: Which,
-    pub name: Name,
-    pub bytes: Items<u8>,
+    pub name: FileName,
+    pub bytes: List<u8>,
 }
 
-/// The files that a command writes, in order, and the line that it prints behind them.
+/// What a command that isn't refused comes to: the files that it writes, in order, and the line that it prints after them.
 #[derive(Drop)]
-pub struct Outcome {
-    pub outputs: Items<Output>,
-    pub line: Items<u8>,
+pub struct Reply {
+    pub outputs: List<Output>,
+    pub line: List<u8>,
 }

@@ -1,154 +1,169 @@
-// The air alone.
-ghost use Rattle.std.specs.Prelude.{◌≡◌, ◌≤◌, ◌++◌, ℕ, Some, All, IsTrue, IsErrOf, IfErr, IfOk, OnOk, pos, ◌<ℤ◌, ◌^◌};
-ghost use Rattle.cpl_gridfile.specs.AirGrid.{IsAirGrid};
-ghost use Rattle.cpl_gridfile.specs.Reading.{air_grid_of};
-ghost use Rattle.cpl_restart.specs.Numbers.{IsAmount};
-ghost use Rattle.cpl_restart.specs.AirBytes.{IsAir, air_of};
-ghost use Rattle.cpl_restart.specs.Diffusion.{cell_count, total_of, AreAmounts, IsAirMesh};
-ghost use Rattle.cpl_top.specs.Answer.{as_grid, as_start, budget, solo_outcome, solo_judged, solo_answer};
-ghost use Rattle.cpl_top.specs.Causes.{Answers, IsJudgement, IsRefusal, FailedReading};
-ghost use Rattle.cpl_top.specs.Requests.{solo_command};
-ghost use Rattle.cpl_top.specs.Outcomes.{AreOutputs};
-ghost use Rattle.cpl_top.specs.declared.status.Which.{Which};
+// The command `solo`: the air alone, undivided or in pieces.
+ghost use Rattle.std.specs.Prelude.{◌≡◌, IfOk, IfSome};
+ghost use Rattle.std.specs.Option.{option_map};
+ghost use Rattle.cpl_restart.specs.Diffusion.{IsAirMesh, AreAmounts, air_after, cell_count};
+ghost use Rattle.cpl_top.specs.Causes.{Answers};
+ghost use Rattle.cpl_top.specs.Pieces.{ArePieces};
+ghost use Rattle.cpl_top.specs.Reads.{Runs};
+ghost use Rattle.cpl_top.specs.Replies.{AreApart};
+ghost use Rattle.cpl_top.specs.Solo.{air_layout, solo_of, solo_reads, solo_answer, solo_reply};
+ghost use Rattle.cpl_top.specs.Words.{texts};
 
+use crate::budget::judge_budget;
 use crate::files::read_file;
-use crate::words::SoloWords;
-use crate::{Name, Outcome, Output, Status, Which};
-use cpl_fixed::Quantity;
-use cpl_gridfile::{GridError, read_air};
+use crate::pieces::{Pieces, judge_layout, pieces_of};
+use crate::words::number;
+use crate::{FileName, Output, Reply, Status, Which};
+use cpl_divided::run_divided;
+use cpl_fixed::{Component, List, MOST_STEPS, Quantity};
+use cpl_gridfile::read_air;
 use cpl_io::Shelf;
-use cpl_mosaic::Mesh;
-use cpl_restart::{Air, StartError, decode_air, encode_air};
+use cpl_layout::Layout;
+use cpl_mosaic::{Mesh, Mosaic};
+use cpl_restart::{Air, decode_air, encode_air};
 use cpl_whole::run_solo;
-use sqlite_items::Items;
 use std::alloc::{AllocError, Global};
 
-/// The most bytes that a grid's text has.
-const GRID_LIMIT: u64 = 1 << 26;
-
-/// The most bytes that a state has.
-const START_LIMIT: u64 = 1 << 28;
-
-// The grid that bytes spell.
-fn mesh_from(alloc: Global, bytes: Vec<u8>) -> Result<Mesh, Status>
-    ensures answer { Answers (λ mesh. mesh) result (as_grid (air_grid_of bytes.items)) }
-    ensures grid { IfOk result IsAirGrid }
-    ensures own { IfErr result IsJudgement }
-{
-    match read_air(alloc, &bytes) {
-        Ok(mesh) => Ok(mesh),
-        Err(GridError::Memory) => Err(Status::Memory),
-        Err(fault) => Err(Status::Grid(fault)),
-    }
+/// The arguments of `solo`.
+#[derive(Clone, Copy)]
+pub(crate) struct SoloWords<'a> {
+    pub(crate) grid: &'a str,
+    pub(crate) start: &'a str,
+    pub(crate) out: &'a str,
+    pub(crate) steps: u32,
+    pub(crate) pieces: Option<Pieces>,
 }
 
-// The air that bytes spell.
-fn air_from(alloc: Global, cells: u32, bytes: Vec<u8>) -> Result<Air, Status>
-    ensures answer { Answers (λ air. air) result (as_start (air_of cells bytes.items)) }
-    ensures air { IfOk result (IsAir cells) }
-    ensures own { IfErr result IsJudgement }
+// Either form, by the number of arguments.
+#[tactic(auto, using(crate::proofs::Texts::not_four_or_six))]
+fn solo_words<'a>(arguments: &'a [String]) -> Option<SoloWords<'a>>
+    ensures reads { option_map (λ words.
+        solo_reads words.grid.now words.start.now words.out.now words.steps words.pieces) result
+        ≡ solo_of (texts arguments.now) }
+    ensures pieces { IfSome result (λ words. IfSome words.pieces ArePieces) }
 {
-    match decode_air(alloc, cells, &bytes) {
-        Ok(air) => Ok(air),
-        Err(StartError::Memory) => Err(Status::Memory),
-        Err(fault) => Err(Status::Start(fault)),
-    }
-}
-
-// The total of amounts.
-fn total(amounts: &[i64]) -> i128
-    requires { All IsAmount amounts.now }
-    ensures { result ≡ total_of amounts.now }
-{
-    let mut total = 0u128;
-    for amount in amounts {
-        total += u128::from(*amount as u64);
-    }
-    total as i128
-}
-
-// Whether the total of amounts is within the budget.
-fn judge_budget(quantity: Quantity, amounts: &[i64]) -> Result<(), Status>
-    requires { All IsAmount amounts.now }
-    ensures answer { Answers (λ done. done) result (budget quantity (total_of amounts.now)) }
-    ensures within { OnOk result (total_of amounts.now <ℤ pos (2 ^ 62)) }
-    ensures own { IfErr result IsJudgement }
-{
-    let total = total(amounts);
-    if total < 1 << 62 {
-        Ok(())
-    } else {
-        Err(Status::Budget(quantity, total))
+    match arguments {
+        [grid, start, out, steps] => {
+            let steps = number(steps.as_str(), u64::from(MOST_STEPS))? as u32;
+            Some(SoloWords {
+                grid: grid.as_str(),
+                start: start.as_str(),
+                out: out.as_str(),
+                steps,
+                pieces: None,
+            })
+        }
+        [grid, start, out, steps, px, py] => {
+            let steps = number(steps.as_str(), u64::from(MOST_STEPS))? as u32;
+            let pieces = pieces_of(px.as_str(), py.as_str())?;
+            Some(SoloWords {
+                grid: grid.as_str(),
+                start: start.as_str(),
+                out: out.as_str(),
+                steps,
+                pieces: Some(pieces),
+            })
+        }
+        _ => None,
     }
 }
 
 // What is written and printed for the last air.
-fn outcome(
+fn solo_reply(
     alloc: Global,
     words: &SoloWords<'_>,
     cells: u32,
     air: &Air,
-) -> Result<Outcome, AllocError>
-    ensures { IfOk result (λ outcome. outcome ≡ solo_outcome words.now.out.now words.now.steps cells air.now) }
+) -> Result<Reply, AllocError>
+    ensures { IfOk result (λ reply. reply ≡ solo_reply words.now.out.now words.now.steps cells air.now) }
 {
     let name = format!(in alloc; "{}.restart", words.out)?;
     let line = format!(in alloc; "done {} {} 0\n", words.steps, cells)?;
     let mut outputs = Vec::new(alloc);
     outputs.push(Output {
         which: Which::Restart,
-        name: Name::new(name),
-        bytes: Items::from_vec(encode_air(alloc, air)?),
+        name: FileName::new(name),
+        bytes: List::from_vec(encode_air(alloc, air)?),
     })?;
-    Ok(Outcome {
-        outputs: Items::from_vec(outputs),
-        line: Items::from_vec(line.into_bytes()),
+    Ok(Reply {
+        outputs: List::from_vec(outputs),
+        line: List::from_vec(line.into_bytes()),
     })
 }
 
-// What the bytes of the two files come to.
-fn judged(
+// The layout of the air, where pieces are asked for.
+fn air_layout(
+    alloc: Global,
+    mosaic: &Mosaic,
+    pieces: Option<Pieces>,
+) -> Result<Option<Layout>, Status>
+    requires { IfSome pieces ArePieces }
+    ensures answer { Answers (λ layout. tt) result (air_layout pieces mosaic.now.tiles) }
+    ensures tiles { IfOk result (λ layout. IfSome layout (λ cuts. cuts.tiles ≡ mosaic.now.tiles)) }
+{
+    match pieces {
+        None => Ok(None),
+        Some(pieces) => Ok(Some(judge_layout(alloc, Component::Atmos, mosaic, pieces)?)),
+    }
+}
+
+// The air after n steps, by pieces where there is a layout.
+fn run_air(
+    alloc: Global,
+    mesh: &Mesh,
+    layout: Option<Layout>,
+    air: Air,
+    n: u32,
+) -> Result<Air, AllocError>
+    requires mesh { IsAirMesh mesh.now }
+    requires layout { IfSome layout (λ cuts. cuts.tiles ≡ mesh.now.mosaic.tiles) }
+    requires heat { AreAmounts (cell_count mesh.now) air.heat }
+    requires vapour { AreAmounts (cell_count mesh.now) air.vapour }
+    ensures { IfOk result (λ last. last ≡ air_after n mesh.now air) }
+{
+    match layout {
+        None => run_solo(alloc, mesh, air, n),
+        Some(layout) => run_divided(alloc, mesh, &layout, air, n),
+    }
+}
+
+// What the bytes of the two files come to. Each file's bytes are freed as soon as they are read, so that the run has the memory.
+fn run_solo_command(
     alloc: Global,
     words: &SoloWords<'_>,
     grid: Vec<u8>,
     start: Vec<u8>,
-) -> Result<Outcome, Status>
-    ensures answer { Answers (λ outcome. outcome) result
-        (solo_judged words.now.out.now words.now.steps grid.items start.items) }
-    ensures outputs { IfOk result (λ outcome. AreOutputs (solo_command words.now) outcome.outputs) }
-    ensures own { IfErr result IsJudgement }
+) -> Result<Reply, Status>
+    requires { IfSome words.now.pieces ArePieces }
+    ensures answer { Answers (λ reply. reply) result
+        (solo_answer words.now.out.now words.now.steps words.now.pieces grid.items start.items) }
+    ensures apart { IfOk result (λ reply. AreApart reply.outputs) }
 {
-    let mesh = mesh_from(alloc, grid)?;
+    let mesh = read_air(alloc, &grid)?;
+    drop(grid);
     let cells = mesh.mosaic.cells();
-    let air = air_from(alloc, cells, start)?;
+    let air = decode_air(alloc, cells, &start)?;
+    drop(start);
+    let layout = air_layout(alloc, &mesh.mosaic, words.pieces)?;
     judge_budget(Quantity::Heat, air.heat.as_slice())?;
     judge_budget(Quantity::Water, air.vapour.as_slice())?;
-    let Ok(last) = run_solo(alloc, &mesh, air, words.steps) else {
-        return Err(Status::Memory);
-    };
-    match outcome(alloc, words, cells, &last) {
-        Ok(outcome) => Ok(outcome),
-        Err(_) => Err(Status::Memory),
-    }
+    let last = run_air(alloc, &mesh, layout, air, words.steps)?;
+    Ok(solo_reply(alloc, words, cells, &last)?)
 }
 
-/// Reads the files of `solo`, judges them, and runs the air alone.
-pub fn prepare_solo<S: Shelf>(
+/// `solo GRID START OUT N`, or with PX PY: reads a grid and a state of its air, runs the air alone for N steps, and writes its
+/// last state. With PX and PY it runs in as many columns and rows of pieces, which changes nothing of what is written.
+pub(crate) fn solo<S: Shelf>(
     alloc: Global,
-    words: &SoloWords<'_>,
+    arguments: &[String],
     shelf: &mut S,
-) -> Result<Outcome, Status>
-    ensures told { S.told shelf.new ≡ S.told shelf.old }
-    ensures files { S.files shelf.new ≡ S.files shelf.old }
-    ensures later { S.faults shelf.old ≤ S.faults shelf.new }
-    ensures answer { IsTrue (S.told shelf.old) → Answers (λ outcome. outcome) result
-        (solo_answer (S.files shelf.old) words.now.grid.now words.now.start.now words.now.out.now words.now.steps) }
-    ensures read { (file : Which) → IsErrOf result (Status.Read file)
-        → FailedReading (S.told shelf.old) (S.files shelf.old) (Some (solo_command words.now)) file
-        (S.faults shelf.old) (S.faults shelf.new) (S.failed shelf.new) }
-    ensures outputs { IfOk result (λ outcome. AreOutputs (solo_command words.now) outcome.outputs) }
-    ensures own { IfErr result IsRefusal }
+) -> Result<Reply, Status>
+    ensures { Runs S.told S.files S.faults S.failed (solo_of (texts arguments.now)) shelf.old shelf.new result }
 {
-    let grid = read_file(alloc, shelf, Which::Grid, GRID_LIMIT, words.grid)?;
-    let start = read_file(alloc, shelf, Which::Start, START_LIMIT, words.start)?;
-    judged(alloc, words, grid, start)
+    let Some(words) = solo_words(arguments) else {
+        return Err(Status::Usage);
+    };
+    let grid = read_file(alloc, shelf, Which::Grid, words.grid)?;
+    let start = read_file(alloc, shelf, Which::Start, words.start)?;
+    run_solo_command(alloc, &words, grid, start)
 }

@@ -1,9 +1,13 @@
 // What the program answers.
 ghost use Rattle.std.specs.Prelude.{◌≡◌};
+ghost use Rattle.cpl_top.specs.Judging.{grid_status, start_status};
+ghost use Rattle.cpl_top.specs.declared.status.Status.TheVariants.{Memory};
 
-use cpl_fixed::Quantity;
+use cpl_fixed::{MOST_GRID_BYTES, MOST_NAMES_BYTES, MOST_START_BYTES, Quantity};
 use cpl_gridfile::GridError;
+use cpl_namelist::NamesError;
 use cpl_restart::StartError;
+use std::alloc::AllocError;
 use std::fmt;
 use thiserror::Error;
 
@@ -16,6 +20,23 @@ pub enum Which {
     Stocks,
     Exchanges,
     Restart,
+}
+
+impl Which {
+    ghost use Rattle.cpl_top.specs.Limits.{limit_of};
+
+    /// The most bytes that this file may have where it is read: 64 MiB for a grid's text, 64 KiB for a namelist and 256 MiB for
+    /// a state. The others are written and never read.
+    pub fn limit(self) -> u64
+        ensures { result ≡ limit_of self }
+    {
+        match self {
+            Which::Grid => MOST_GRID_BYTES,
+            Which::Names => MOST_NAMES_BYTES,
+            Which::Start => MOST_START_BYTES,
+            Which::Stocks | Which::Exchanges | Which::Restart => 0,
+        }
+    }
 }
 
 impl fmt::Display for Which {
@@ -51,6 +72,9 @@ pub enum Status {
     /// The first broken rule of the grid.
     #[error("grid: {0}")]
     Grid(GridError),
+    /// The first fault of the namelist, or of a layout that words or a namelist ask for.
+    #[error("names: {0}")]
+    Names(NamesError),
     /// The first fault of the start's bytes.
     #[error("start: {0}")]
     Start(StartError),
@@ -68,6 +92,36 @@ pub enum Status {
     Memory,
 }
 
+impl From<AllocError> for Status {
+    ghost from_gives = { λ _ status. status ≡ Memory };
+
+    fn from(_error: AllocError) -> Status {
+        Status::Memory
+    }
+}
+
+impl From<GridError> for Status {
+    ghost from_gives = { λ fault status. status ≡ grid_status fault };
+
+    fn from(fault: GridError) -> Status {
+        match fault {
+            GridError::Memory => Status::Memory,
+            fault => Status::Grid(fault),
+        }
+    }
+}
+
+impl From<StartError> for Status {
+    ghost from_gives = { λ fault status. status ≡ start_status fault };
+
+    fn from(fault: StartError) -> Status {
+        match fault {
+            StartError::Memory => Status::Memory,
+            fault => Status::Start(fault),
+        }
+    }
+}
+
 impl Status {
     ghost use Rattle.cpl_top.specs.Numbers.{status_number};
 
@@ -81,6 +135,7 @@ impl Status {
             Status::Read(_) => 2,
             Status::TooLong(_) => 3,
             Status::Grid(_) => 4,
+            Status::Names(_) => 5,
             Status::Start(_) => 6,
             Status::Budget(_, _) => 7,
             Status::Write(_) => 8,

@@ -1,54 +1,60 @@
 // The top call.
-ghost use Rattle.std.specs.Prelude.{◌≡◌, ◌≤◌, ◌⊎◌, ◌↔◌, ℕ, None, Some, IsTrue, IsErrOf, IfOk, IfErr};
+ghost use Rattle.std.specs.Prelude.{◌≡◌, ◌≤◌, ◌⊎◌, ◌↔◌, None, IsTrue};
 ghost use Rattle.cpl_io.specs.Causes.{Rose};
-ghost use Rattle.cpl_top.specs.Words.{texts, command_of};
-ghost use Rattle.cpl_top.specs.Requests.{request_command};
-ghost use Rattle.cpl_top.specs.Outcomes.{AreOutputs, outputs_of, line_of, status_of};
-ghost use Rattle.cpl_top.specs.Answer.{answer, command_answer};
+ghost use Rattle.cpl_top.specs.Words.{texts};
+ghost use Rattle.cpl_top.specs.Replies.{outputs_of, line_of, status_of};
+ghost use Rattle.cpl_top.specs.Commands.{answer, command_of};
 ghost use Rattle.cpl_top.specs.Leaves.{LeavesFiles, LeavesLine, IsSilent};
-ghost use Rattle.cpl_top.specs.Causes.{Agrees, Answers, FailedReading, FailedWriting, IsRefusal};
+ghost use Rattle.cpl_top.specs.Causes.{Agrees, ShelfFaults, SinkFaults};
+ghost use Rattle.cpl_top.specs.Failures.{FailedReading, FailedWriting};
+ghost use Rattle.cpl_top.specs.Prepared.{IsPrepared};
+ghost use Rattle.cpl_top.specs.Reads.{Runs};
 ghost use Rattle.cpl_top.specs.declared.status.Which.{Which};
 
+use crate::check::check;
 use crate::delivery::deliver;
-use crate::solo::prepare_solo;
-use crate::words::{Request, request_from};
-use crate::{Outcome, Status};
+use crate::solo::solo;
+use crate::words::are_arguments;
+use crate::{Reply, Status};
 use cpl_io::{Shelf, Sink};
 use std::alloc::Global;
 
-// Reads and judges what a command asks for, and runs it. Nothing is written yet.
-fn prepared<S: Shelf>(
-    alloc: Global,
-    request: &Request<'_>,
-    shelf: &mut S,
-) -> Result<Outcome, Status>
-    ensures told { S.told shelf.new ≡ S.told shelf.old }
-    ensures files { S.files shelf.new ≡ S.files shelf.old }
-    ensures later { S.faults shelf.old ≤ S.faults shelf.new }
-    ensures answer { IsTrue (S.told shelf.old) → Answers (λ outcome. outcome) result
-        (command_answer (S.files shelf.old) (request_command request.now)) }
-    ensures read { (file : Which) → IsErrOf result (Status.Read file)
-        → FailedReading (S.told shelf.old) (S.files shelf.old) (Some (request_command request.now)) file
-        (S.faults shelf.old) (S.faults shelf.new) (S.failed shelf.new) }
-    ensures outputs { IfOk result (λ outcome. AreOutputs (request_command request.now) outcome.outputs) }
-    ensures own { IfErr result IsRefusal }
+// Runs the command that the words are: reads what it asks for, judges it, and computes. Nothing is written yet.
+#[tactic(auto, unfolding(crate::specs::Commands::command_of))]
+fn run_command<S: Shelf>(alloc: Global, words: &[String], shelf: &mut S) -> Result<Reply, Status>
+    ensures { Runs S.told S.files S.faults S.failed (command_of (texts words.now)) shelf.old shelf.new result }
 {
-    match request {
-        Request::Solo(words) => prepare_solo(alloc, words, shelf),
+    if !are_arguments(words) {
+        return Err(Status::Usage);
+    }
+    let [name, arguments @ ..] = words else {
+        return Err(Status::Usage);
+    };
+    match name.as_str() {
+        "check" => check(alloc, arguments, shelf),
+        "solo" => solo(alloc, arguments, shelf),
+        _ => Err(Status::Usage),
     }
 }
 
-/// Does all that the program does, for the words behind the program's name. It waits for nobody and always returns.
+// The same, by what the command's walk comes to.
+fn prepare<S: Shelf>(alloc: Global, words: &[String], shelf: &mut S) -> Result<Reply, Status>
+    ensures { IsPrepared S.told S.files S.faults S.failed (command_of (texts words.now)) shelf.old shelf.new result }
+{
+    run_command(alloc, words, shelf)
+}
+
+/// Does all that the program does, for the words after the program's name. It waits for nobody and always returns.
 ///
 /// The order of judging is: the words; each file read, in the order of the words; then what each file says, in the same order;
-/// then the budget. All reading comes before all judging and all writing, so a file that is read may be written too.
+/// then layouts and the budget. All reading comes before all judging and all writing, so a file that is read may be written too.
 pub fn still_top<S: Shelf, K: Sink>(
     alloc: Global,
     words: &[String],
     shelf: &mut S,
     out: &mut K,
 ) -> Status
-    // Usage, TooLong, Grid, Start and Budget are the answer to the words and files. Done, Write and Print come only where the
+    // Usage, TooLong, Grid, Names, Start and Budget are the answer to the words and files. Done, Write and Print come only where the
     // answer is files and a line.
     ensures answer { IsTrue (S.told shelf.old) → Agrees result (answer (texts words.now) (S.files shelf.old)) }
     ensures usage { (result ≡ Status.Usage) ↔ (command_of (texts words.now) ≡ None) }
@@ -67,25 +73,26 @@ pub fn still_top<S: Shelf, K: Sink>(
         → FailedReading (S.told shelf.old) (S.files shelf.old) (command_of (texts words.now)) file
         (S.faults shelf.old) (S.faults shelf.new) (S.failed shelf.new) }
     ensures write { (file : Which) → result ≡ Status.Write file
-        → FailedWriting (command_of (texts words.now)) file
+        → FailedWriting (S.told shelf.old) (S.files shelf.old) (command_of (texts words.now)) file
         (S.faults shelf.old) (S.faults shelf.new) (S.failed shelf.new) }
     ensures print { result ≡ Status.Print → Rose (K.faults out.old) (K.faults out.new) }
+
+    // Where it failed, the status says so: no other leaves a fault behind.
+    ensures shelf_faults { ShelfFaults result
+        (S.faults shelf.old) (S.faults shelf.new) (S.failed shelf.old) (S.failed shelf.new) }
+    ensures sink_faults { SinkFaults result (K.faults out.old) (K.faults out.new) }
 
     // Where nothing failed, the status is that of the answer, unless memory ran out.
     ensures complete { IsTrue (S.told shelf.old)
         → ¬ Rose (S.faults shelf.old) (S.faults shelf.new) → ¬ Rose (K.faults out.old) (K.faults out.new)
         → (result ≡ status_of (answer (texts words.now) (S.files shelf.old))) ⊎ (result ≡ Status.Memory) }
+
+    // The shelf and the sink go on as they were, so that calls can follow each other.
+    ensures still_tells { (S.told shelf.new ≡ S.told shelf.old) × (K.told out.new ≡ K.told out.old) }
+    ensures faults_grow { (S.faults shelf.old ≤ S.faults shelf.new) × (K.faults out.old ≤ K.faults out.new) }
 {
-    let Some(request) = request_from(words) else {
-        return Status::Usage;
-    };
-    match prepared(alloc, &request, shelf) {
-        Ok(outcome) => deliver(
-            outcome.outputs.as_slice(),
-            outcome.line.as_slice(),
-            shelf,
-            out,
-        ),
+    match prepare(alloc, words, shelf) {
+        Ok(reply) => deliver(reply.outputs.as_slice(), reply.line.as_slice(), shelf, out),
         Err(refusal) => refusal,
     }
 }

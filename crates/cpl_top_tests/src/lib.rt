@@ -1,11 +1,74 @@
-//! Tests of the top call. Each expected value follows from the formats and formulas by hand, as its comment says.
+//! Tests of the top call over a shelf and a sink of which chosen calls fail. What the program does with real files is tried by
+//! running it.
 #![tactic(auto)]
 
 #[cfg(test)]
-mod common;
-#[cfg(test)]
-mod faults;
-#[cfg(test)]
-mod outside;
-#[cfg(test)]
-mod solo;
+mod tests {
+    use cpl_io::{MemShelf, MemSink};
+    use cpl_top::{FileName, Status, Which, still_top};
+    use std::test::Fail;
+
+    // Two cells of area 1 side by side.
+    const GRID: &[u8] = b"grid 1 air\nmosaic atmos 1\ntile 2 1\narea 1 1\ncontacts 0\nend\n";
+
+    // A mark, a section of the heats 100 and 0, and one of the vapours 0 and 0: each a count and its numbers, in 8 bytes each.
+    const START: &[u8] =
+        b"CPLAIR01\0\0\0\0\0\0\0\x02\0\0\0\0\0\0\0\x64\0\0\0\0\0\0\0\0\0\0\0\0\0\0\0\x02\0\0\0\0\0\0\0\0\0\0\0\0\0\0\0\0";
+
+    // After one step: out of the first cell flows trunc((100 * 1 - 0 * 1) / (8 * 2)) = 6.
+    const LAST: &[u8] =
+        b"CPLAIR01\0\0\0\0\0\0\0\x02\0\0\0\0\0\0\0\x5e\0\0\0\0\0\0\0\x06\0\0\0\0\0\0\0\x02\0\0\0\0\0\0\0\0\0\0\0\0\0\0\0\0";
+
+    const LINE: &[u8] = b"done 1 2 0\n";
+
+    // The calls on the shelf and on the sink that fail, the status, what `o.restart` then has, and the line.
+    type Row = (
+        &'static [u64],
+        &'static [u64],
+        Status,
+        &'static [u8],
+        &'static [u8],
+    );
+
+    // Each file takes two readings, of which the second finds its end. The output is begun, and its bytes are added. The
+    // restart is there before with other bytes, and stands until it is begun.
+    const ROWS: [Row; 8] = [
+        (&[0], &[], Status::Read(Which::Grid), b"kept", b""),
+        (&[1], &[], Status::Read(Which::Grid), b"kept", b""),
+        (&[2], &[], Status::Read(Which::Start), b"kept", b""),
+        (&[3], &[], Status::Read(Which::Start), b"kept", b""),
+        (&[4], &[], Status::Write(Which::Restart), b"kept", b""),
+        (&[5], &[], Status::Write(Which::Restart), b"", b""),
+        (&[6], &[0], Status::Print, LAST, b""),
+        (&[6], &[1], Status::Done, LAST, LINE),
+    ];
+
+    #[test]
+    fn each_failing_call_is_named(rt: HostRuntime) -> Result<(), Fail> {
+        let alloc = rt.alloc();
+        let mut words = Vec::new(alloc);
+        for word in ["solo", "g", "s", "o", "1"] {
+            words.push(String::from_str(alloc, word)?)?;
+        }
+        for (calls, puts, status, restart, line) in ROWS {
+            let mut shelf = MemShelf::new(alloc, calls.to_vec(alloc)?);
+            let mut sink = MemSink::new(alloc, puts.to_vec(alloc)?);
+            shelf.store("g", GRID)?;
+            shelf.store("s", START)?;
+            shelf.store("o.restart", b"kept")?;
+            assert_eq!(rt; still_top(alloc, &words, &mut shelf, &mut sink), status);
+            assert_eq!(rt; shelf.file("o.restart"), Some(restart));
+            assert_eq!(rt; sink.bytes(), line);
+        }
+        Ok(())
+    }
+
+    #[test]
+    fn names_and_numbers(rt: HostRuntime) -> Result<(), Fail> {
+        let name = FileName::new(String::from_str(rt.alloc(), "o.restart")?);
+        assert_eq!(rt; name.as_str(), "o.restart");
+        assert_eq!(rt; Status::Write(Which::Restart).number(), 8);
+        assert_eq!(rt; Which::Names.limit(), 65_536);
+        Ok(())
+    }
+}

@@ -1,4 +1,4 @@
-use Rattle.std.proofs.Common.{◌∙◌, sym, ap, subst, IsTrue, arith}
+use Rattle.std.proofs.Common.{◌∙◌, sym, ap, subst, IsTrue, rules}
 use Rattle.std.proofs.lemmas.List.{get_or_default}
 use Rattle.cpl_top.proofs.Written.{written_failed, written_more}
 use Rattle.cpl_top.proofs.delivery.write_files.Goals as goal
@@ -18,8 +18,9 @@ returns-in-Err-Memory-clause-files g c told =
 
 pub loop-output-preserved : goal.loop-output-preserved
 loop-output-preserved g c = record {
-  told = c.write_file.ensures.told ∙ c.loop-output.invariant.told;
-  later = omega (arith, c.write_file.ensures.later, c.loop-output.invariant.later);
+  told = c.write_file.ensures.still_tells ∙ c.loop-output.invariant.told;
+  faults = search rules;
+  failed = search rules;
   files = λ told.
       let now = subst IsTrue (sym c.loop-output.invariant.told) told in
       written_more c.args.outputs.now c.loop-output.output-index c.output-item.result _ (g.S.Shelf.files c.loop-output.shelf) _ c.loop-output-test.true c.output-item.is (c.loop-output.invariant.files told) (c.write_file.ensures.others now) c.requires (c.in-Ok.ensures.ok now);

@@ -2,7 +2,7 @@ use Rattle.std.proofs.Common.{arith}
 use Rattle.std.specs.Prelude.{pos}
 use Rattle.std.proofs.lemmas.Int.{ints}
 use Rattle.cpl_top.proofs.Totals.{total_of-more}
-use Rattle.cpl_top.proofs.solo.total.Goals as goal
+use Rattle.cpl_top.proofs.budget.total.Goals as goal
 
 pub loop-amount-preserved : goal.loop-amount-preserved
 loop-amount-preserved c =

@@ -1,7 +1,7 @@
 use Rattle.std.proofs.Common.{◌≡◌, ◌≤◌, ◌-◌, ◌*◌, ◌^◌, take}
 use Rattle.std.specs.Prelude.{pos}
-use Rattle.cpl_restart.specs.Diffusion.{total_of}
-use Rattle.cpl_top.proofs.solo.total.Given as goal
+use Rattle.cpl_fixed.specs.Totals.{total_of}
+use Rattle.cpl_top.proofs.budget.total.Given as goal
 
 -- the total so far is that of the amounts so far, each of which is below 2^63
 abbrev pub invariant-loop-amount : goal.invariant-loop-amount

@@ -1,0 +1,156 @@
+// The command `check`: what a grid has.
+ghost use Rattle.std.specs.Prelude.{◌≡◌, IfOk, string_bytes};
+ghost use Rattle.std.specs.Option.{option_map};
+ghost use Rattle.cpl_gridfile.specs.CoupledGrid.{IsCoupledGrid};
+ghost use Rattle.cpl_top.specs.Causes.{Answers};
+ghost use Rattle.cpl_top.specs.Check.{air_counts, coupled_counts, counts_of, kind_words, check_answer, check_line, check_of, check_reads, check_reply};
+ghost use Rattle.cpl_top.specs.Reads.{Runs};
+ghost use Rattle.cpl_top.specs.Replies.{AreApart};
+ghost use Rattle.cpl_top.specs.Words.{texts};
+
+use crate::files::read_file;
+use crate::{Reply, Status, Which};
+use cpl_fixed::List;
+use cpl_gridfile::{read_air, read_grid};
+use cpl_io::Shelf;
+use cpl_mosaic::Mesh;
+use cpl_xgrid::{Grid, Surface};
+use std::alloc::{AllocError, Global};
+
+// The first line of a grid for the air alone.
+const AIR_HEAD: &[u8] = b"grid 1 air\n";
+
+/// Whether a grid is for the air alone.
+#[derive(Clone, Copy)]
+pub(crate) enum Kind {
+    Air,
+    Coupled,
+}
+
+impl Kind {
+    // The words that the line begins with.
+    fn words(self) -> &'static str
+        ensures { result.now ≡ kind_words self }
+    {
+        match self {
+            Kind::Air => "grid air",
+            Kind::Coupled => "grid coupled",
+        }
+    }
+}
+
+/// What a grid has: the cells of its three mosaics, the exchange cells of both lists, and the outlets.
+#[derive(Clone, Copy)]
+pub(crate) struct Counts {
+    kind: Kind,
+    air: u32,
+    land: u32,
+    ocean: u32,
+    exchange: u32,
+    outlets: u32,
+}
+
+// What a grid for the air alone has.
+fn count_air(mesh: &Mesh) -> Counts
+    ensures { result ≡ air_counts mesh.now }
+{
+    Counts {
+        kind: Kind::Air,
+        air: mesh.mosaic.cells(),
+        land: 0,
+        ocean: 0,
+        exchange: 0,
+        outlets: 0,
+    }
+}
+
+// What a coupled grid has.
+fn count_coupled(grid: &Grid) -> Counts
+    requires { IsCoupledGrid grid.now }
+    ensures { result ≡ coupled_counts grid.now }
+{
+    let land_rows = grid.xgrid.rows(Surface::Land).len();
+    let ocean_rows = grid.xgrid.rows(Surface::Ocean).len();
+    Counts {
+        kind: Kind::Coupled,
+        air: grid.air.mosaic.cells(),
+        land: grid.land.mosaic.cells(),
+        ocean: grid.ocean.mosaic.cells(),
+        exchange: (land_rows + ocean_rows) as u32,
+        outlets: grid.xgrid.outlets().len() as u32,
+    }
+}
+
+// What the grid has that bytes spell.
+fn count(alloc: Global, bytes: &[u8]) -> Result<Counts, Status>
+    ensures { Answers (λ counts. counts) result (counts_of bytes.now) }
+{
+    if bytes.starts_with(AIR_HEAD) {
+        let mesh = read_air(alloc, bytes)?;
+        Ok(count_air(&mesh))
+    } else {
+        let grid = read_grid(alloc, bytes)?;
+        Ok(count_coupled(&grid))
+    }
+}
+
+// What is printed after these words.
+fn check_line(alloc: Global, words: &str, counts: &Counts) -> Result<String, AllocError>
+    ensures { IfOk result (λ line. string_bytes line ≡ check_line words.now counts.now) }
+{
+    let Counts {
+        kind: _,
+        air,
+        land,
+        ocean,
+        exchange,
+        outlets,
+    } = *counts;
+    format!(in alloc; "{words} {air} {land} {ocean} {exchange} {outlets}\n")
+}
+
+// What is printed for a grid. No file is written.
+fn check_reply(alloc: Global, counts: &Counts) -> Result<Reply, AllocError>
+    ensures { IfOk result (λ reply. reply ≡ check_reply counts.now) }
+{
+    let line = check_line(alloc, counts.kind.words(), counts)?;
+    Ok(Reply {
+        outputs: List::from_vec(Vec::new(alloc)),
+        line: List::from_vec(line.into_bytes()),
+    })
+}
+
+// What the bytes of the file come to. They are freed as soon as the grid is counted.
+fn run_check_command(alloc: Global, grid: Vec<u8>) -> Result<Reply, Status>
+    ensures answer { Answers (λ reply. reply) result (check_answer grid.items) }
+    ensures apart { IfOk result (λ reply. AreApart reply.outputs) }
+{
+    let counts = count(alloc, &grid)?;
+    drop(grid);
+    Ok(check_reply(alloc, &counts)?)
+}
+
+#[tactic(auto, using(crate::proofs::Texts::not_one))]
+fn check_words<'a>(arguments: &'a [String]) -> Option<&'a str>
+    ensures { option_map (λ grid. check_reads grid.now) result ≡ check_of (texts arguments.now) }
+{
+    let [grid] = arguments else {
+        return None;
+    };
+    Some(grid.as_str())
+}
+
+/// `check GRID`: reads a grid of either kind, and prints its kind, the cells of its mosaics, its exchange cells and its outlets.
+pub(crate) fn check<S: Shelf>(
+    alloc: Global,
+    arguments: &[String],
+    shelf: &mut S,
+) -> Result<Reply, Status>
+    ensures { Runs S.told S.files S.faults S.failed (check_of (texts arguments.now)) shelf.old shelf.new result }
+{
+    let Some(grid) = check_words(arguments) else {
+        return Err(Status::Usage);
+    };
+    let grid = read_file(alloc, shelf, Which::Grid, grid)?;
+    run_check_command(alloc, grid)
+}
