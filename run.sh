@@ -13,16 +13,6 @@ program=$out/coupler
 
 say() { printf 'run.sh: %s\n' "$*" >&2; }
 
-# One number for all that the program comes from: its sources and their proofs, and the toolchain.
-sum_of_sources() {
-    (
-        cd "$top" || exit
-        stat -Lc '%n %s %Y' "$(command -v rt)"
-        find HANDLES crates.txt crates/*/src crates/*/specs crates/*/proofs -type f -print0 2>/dev/null |
-            LC_ALL=C sort -z | xargs -0 sha256sum
-    ) | sha256sum
-}
-
 # Proves and builds the program. `rt run` does so and then runs it, here with no words, to which it answers `usage`.
 build() {
     say "proving and building the program, which takes minutes where nothing is kept .."
@@ -35,7 +25,7 @@ build() {
 
 build_where_needed() {
     local sum
-    sum=$(sum_of_sources)
+    sum=$("$top/.ci/sources")
     if [ -x "$program" ] && [ "$(cat "$out/sources" 2>/dev/null)" = "$sum" ]; then
         return 0
     fi
