@@ -2,6 +2,7 @@
 """Makes air grids and starts for the command `solo`.
 
     make_inputs.py single SIZE GRID START      one tile of SIZE by SIZE cells, no contacts
+    make_inputs.py equal SIZE GRID START       the same with equal areas
     make_inputs.py wide SIZE GRID START        the same with amounts and areas whose products pass 64 bits
     make_inputs.py cubed SIZE GRID START       the cubed sphere: six tiles of SIZE by SIZE cells
     make_inputs.py largest GRID START          a grid of the longest text that there is
@@ -58,8 +59,8 @@ def air(cells, most_heat, most_vapour, seed=3):
 
 def made(kind, size):
     given = numbers(1)
-    areas = (500 + it % 1000 for it in given)
-    if kind == "single":
+    areas = (700 if kind == "equal" else 500 + it % 1000 for it in given)
+    if kind in ("single", "equal"):
         return grid([tile(size, size, areas)], []), air(size * size, 1 << 40, 1 << 30)
     if kind == "cubed":
         return grid([tile(size, size, areas) for _ in range(6)], cubed_sphere(size)), air(6 * size * size, 1 << 40, 1 << 30)

@@ -19,6 +19,7 @@ fi
 rustc -O --edition 2021 -o "$room/solo_plain" "$top/bench/solo_plain.rs"
 cd "$room"
 python3 "$top/bench/make_inputs.py" single 512 single.grid single.start
+python3 "$top/bench/make_inputs.py" equal 512 equal.grid equal.start
 python3 "$top/bench/make_inputs.py" wide 512 wide.grid wide.start
 python3 "$top/bench/make_inputs.py" cubed 200 cubed.grid cubed.start
 python3 "$top/bench/make_inputs.py" largest largest.grid largest.start
