@@ -3,6 +3,7 @@ pub mod Results
 pub mod Ranges
 pub mod Decimals
 pub mod Totals
+pub mod Amounts
 pub mod Shares
 pub mod Reciprocals
 pub mod Flows

@@ -8,6 +8,7 @@ mod flow;
 mod gain;
 mod limits;
 mod list;
+mod quotients;
 mod rates;
 mod sharing;
 mod words;
@@ -25,6 +26,7 @@ pub use limits::{
     MOST_WORKERS, PARTS, VAPOUR_HEAT, WATER_HEAT,
 };
 pub use list::List;
+pub use quotients::{at_most_share, quotient};
 pub use rates::Rates;
 pub use sharing::{ShareIter, share, shares, shares_law};
 pub use words::{Component, LayoutError, Quantity};

@@ -2,6 +2,7 @@
 ghost use Rattle.std.specs.Prelude.{◌≡◌, length};
 
 use std::marker::Model;
+use std::mem;
 
 /// A `Vec` that contracts see as the list of its items, so that values that hold lists are equal where their items are.
 #[derive(Debug, Drop)]
@@ -34,6 +35,14 @@ impl<T> List<T> {
     {
         let List { items } = self;
         items
+    }
+
+    /// Changes places with a vector, which then has the list's items. It takes no memory and copies nothing.
+    pub fn swap(&mut self, other: &mut Vec<T>)
+        ensures list { self.new ≡ other.old.items }
+        ensures vector { other.new.items ≡ self.old }
+    {
+        mem::swap(&mut self.items, other);
     }
 
     /// The items.

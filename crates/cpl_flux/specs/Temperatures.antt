@@ -1,5 +1,6 @@
 -- Temperatures in millikelvin, and humidity.
-use Rattle.std.specs.Prelude.{ℕ, ◌+◌, ◌-◌, ◌*◌, ◌/◌, ◌==◌, min, ℤ, unsigned_abs, if◌then◌else◌}
+use Rattle.std.specs.Prelude.{ℕ, ◌+◌, ◌-◌, ◌*◌, ◌/◌, ◌==◌, min, if◌then◌else◌}
+pub use Rattle.cpl_fixed.specs.Amounts.{amount}
 use Rattle.cpl_fixed.specs.declared.limits.TheConstants.{VAPOUR_HEAT, MELT_HEAT}
 use Rattle.cpl_fixed.specs.declared.rates.Rates.{Rates}
 use Rattle.cpl_flux.specs.declared.parts.AirSide.{AirSide}
@@ -8,10 +9,6 @@ use Rattle.cpl_flux.specs.declared.parts.Weather.{Weather}
 use Rattle.cpl_flux.specs.declared.parts.Kind.{Kind}
 use Rattle.cpl_flux.specs.declared.parts.Kind.TheVariants.{Land, Water, Ice}
 use Rattle.cpl_flux.specs.declared.temperatures.TheConstants.{FREEZING, HOTTEST, MOST_HUMIDITY}
-
--- an amount, which isn't negative, as a natural number
-abbrev pub amount : ℤ → ℕ
-amount x = unsigned_abs x
 
 -- what the heat gives in millikelvin where each kelvin takes the capacity: at most 400000, and freezing where there is no capacity
 abbrev pub temperature : (heat capacity : ℕ) → ℕ

@@ -5,9 +5,8 @@ ghost use Rattle.cpl_flux.specs.Elements.{IsAirSide, IsPart, IsElement, IsBounde
 ghost use Rattle.cpl_flux.specs.declared.parts.Kind.TheVariants.{Ice};
 
 use crate::parts::{AirSide, Flux, Kind, Part, Weather};
-use crate::quotients::at_most_share;
 use crate::temperatures::{HOTTEST, part_temperature, weather};
-use cpl_fixed::{MOST_AREA, MOST_TOTAL, Rates, VAPOUR_HEAT};
+use cpl_fixed::{MOST_AREA, MOST_TOTAL, Rates, VAPOUR_HEAT, at_most_share};
 
 // What a difference drives through the area b, where the rate is in 2^-20.
 #[inline]

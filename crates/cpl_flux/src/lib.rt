@@ -3,10 +3,8 @@
 
 mod fluxes;
 mod parts;
-mod quotients;
 mod temperatures;
 
 pub use fluxes::{element, element_between};
 pub use parts::{AirSide, Flux, Kind, Part, Weather};
-pub use quotients::at_most_share;
 pub use temperatures::{FREEZING, HOTTEST, air_temperature, humidity, part_temperature, weather};

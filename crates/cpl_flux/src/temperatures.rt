@@ -5,8 +5,7 @@ ghost use Rattle.cpl_flux.specs.Elements.{IsAirSide, IsPart};
 ghost use Rattle.cpl_flux.specs.Temperatures.{air_temperature, humidity, land_temperature, part_temperature, temperature, weather, ice_temperature, water_temperature};
 
 use crate::parts::{AirSide, Kind, Part, Weather};
-use crate::quotients::quotient;
-use cpl_fixed::{MELT_HEAT, MOST_TOTAL, Rates, VAPOUR_HEAT};
+use cpl_fixed::{MELT_HEAT, MOST_TOTAL, Rates, VAPOUR_HEAT, quotient};
 
 /// Freezing, in millikelvin.
 pub const FREEZING: u32 = 273_000;

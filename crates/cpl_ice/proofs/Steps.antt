@@ -5,6 +5,7 @@ use Rattle.std.proofs.lemmas.Int.{ints}
 use Rattle.cpl_fixed.specs.declared.limits.TheConstants.{MOST_TOTAL}
 use Rattle.cpl_fixed.specs.declared.rates.Rates.{Rates}
 use Rattle.cpl_ice.specs.declared.cell.IceCell.{IceCell}
+use Rattle.cpl_ice.specs.Cells.{IsAmount}
 use Rattle.cpl_ice.specs.Slow.{after_melt, before_melt, frozen, melted, ridged}
 use Rattle.cpl_ice.proofs.Keeps.{Keeps, melted_keeps, ridged_keeps}
 
@@ -34,3 +35,10 @@ after_keeps rates old m e =
 pub sum_is : (x y z : ℤ) → pos 0 ≤ℤ x → pos 0 ≤ℤ y → pos 0 ≤ℤ z → (x +ℤ y +ℤ z) ≤ℤ pos MOST_TOTAL
     → to_z w64 (of_z w64 (to_z w64 (of_z w64 (to_z w64 (of_z w64 x) +ℤ to_z w64 (of_z w64 y))) +ℤ to_z w64 (of_z w64 z))) ≡ x +ℤ y +ℤ z
 sum_is x y z hx hy hz most = omega (arith, ints, hx, hy, hz, most)
+
+-- and is an amount
+pub sum_amount : (x y z : ℤ) → pos 0 ≤ℤ x → pos 0 ≤ℤ y → pos 0 ≤ℤ z → (x +ℤ y +ℤ z) ≤ℤ pos MOST_TOTAL
+    → IsAmount (to_z w64 (of_z w64 (to_z w64 (of_z w64 (to_z w64 (of_z w64 x) +ℤ to_z w64 (of_z w64 y))) +ℤ to_z w64 (of_z w64 z))))
+sum_amount x y z hx hy hz most =
+    let e = sum_is x y z hx hy hz most in
+    (omega (arith, ints, e, hx, hy, hz), omega (arith, ints, e, most))

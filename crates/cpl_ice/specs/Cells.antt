@@ -1,16 +1,13 @@
 -- Cells of the ice: what they hold, and what they take and gain.
 use Rattle.std.specs.Prelude.{◌≡◌, ℕ, zero, suc, ◌+ℤ◌, ℤ, pos, All, slice_set, slice_index_or}
+pub use Rattle.cpl_fixed.specs.Amounts.{IsAmount}
 use Rattle.cpl_fixed.specs.Ranges.{IsFrom, IsFromℤ}
 use Rattle.cpl_fixed.specs.Totals.{total_of}
-use Rattle.cpl_fixed.specs.declared.limits.TheConstants.{MOST_AREA, MOST_CATEGORIES, MOST_TOTAL, PARTS}
+use Rattle.cpl_fixed.specs.declared.limits.TheConstants.{MOST_AREA, MOST_CATEGORIES, PARTS}
 use Rattle.cpl_fixed.specs.declared.gain.Gain.{Gain}
 use Rattle.cpl_ice.specs.declared.cell.IceCell.{IceCell}
 use Rattle.cpl_ice.specs.declared.parts.Salty.{Salty}
 use Rattle.cpl_ice.specs.declared.parts.ToIce.{ToIce}
-
--- an amount in range
-abbrev pub IsAmount : ℤ → Type 0
-IsAmount x = IsFromℤ 0 MOST_TOTAL x
 
 -- water with heat and salt
 pub record IsSalty (it : Salty) : Type 0 where

@@ -1,5 +1,6 @@
 -- The slow step of the ice: frazil, ridging up the categories, melt, and what goes back to the ocean.
-use Rattle.std.specs.Prelude.{ℕ, zero, suc, ◌+◌, ◌-◌, ◌*◌, ◌/◌, ◌==◌, ◌≤ℤ◌, ◌+ℤ◌, ◌-ℤ◌, neg_ℤ, ℤ, pos, min, nat_lt, Bool, false, List, slice_set, slice_index_or, unsigned_abs, if◌then◌else◌}
+use Rattle.std.specs.Prelude.{ℕ, zero, suc, ◌+◌, ◌-◌, ◌*◌, ◌/◌, ◌==◌, ◌≤ℤ◌, ◌+ℤ◌, ◌-ℤ◌, neg_ℤ, ℤ, pos, min, nat_lt, Bool, false, List, slice_set, if◌then◌else◌}
+pub use Rattle.cpl_fixed.specs.Amounts.{amount, at}
 use Rattle.cpl_fixed.specs.Totals.{total_of}
 use Rattle.cpl_fixed.specs.declared.limits.TheConstants.{ICE_HEAT, MELT_HEAT, WATER_HEAT, PARTS, MOST_TOTAL}
 use Rattle.cpl_fixed.specs.declared.gain.Gain.{Gain}
@@ -7,14 +8,6 @@ use Rattle.cpl_fixed.specs.declared.rates.Rates.{Rates}
 use Rattle.cpl_ice.specs.declared.cell.IceCell.{IceCell}
 use Rattle.cpl_ice.specs.declared.parts.Salty.{Salty}
 use Rattle.cpl_ice.specs.Cells.{nothing}
-
--- an amount, which isn't negative, as a natural number
-abbrev pub amount : ℤ → ℕ
-amount x = unsigned_abs x
-
--- the number at a place
-abbrev pub at : List ℤ → ℕ → ℤ
-at xs n = slice_index_or xs n (pos 0)
 
 -- the list with x more at a place
 abbrev pub added : List ℤ → ℕ → ℤ → List ℤ

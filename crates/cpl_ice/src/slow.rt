@@ -2,14 +2,15 @@
 ghost use Rattle.std.specs.Prelude.{◌≡◌, ◌+◌, ◌-◌, ◌<◌, ◌≤◌, ◌*◌, pos, ◌≤ℤ◌, ◌+ℤ◌, ◌-ℤ◌, ◌*ℤ◌, nat_lt};
 ghost use Rattle.cpl_fixed.specs.Ranges.{AreRates};
 ghost use Rattle.cpl_fixed.specs.Totals.{total_of};
-ghost use Rattle.cpl_ice.specs.Cells.{IsAmount, IsIceCell, nothing};
+ghost use Rattle.cpl_ice.specs.Cells.{IsAmount, IsIceCell, IsSalty, nothing};
 ghost use Rattle.cpl_ice.specs.Slow.{AreBounded, CanSlow, at, amount, closed_part, frozen, heat_of, is_thick, joined, melted, melted_at, melting, ridged, ridged_at, returned, slowed, water_of};
 
 use crate::cell::IceCell;
 use crate::parts::Salty;
 use crate::shifts::{add, amount_at, remove, shift};
-use cpl_fixed::{Gain, ICE_HEAT, MELT_HEAT, MOST_AREA, MOST_TOTAL, PARTS, Rates, WATER_HEAT};
-use cpl_flux::at_most_share;
+use cpl_fixed::{
+    Gain, ICE_HEAT, MELT_HEAT, MOST_AREA, MOST_TOTAL, PARTS, Rates, WATER_HEAT, at_most_share,
+};
 
 // What melts of ice with this heat.
 fn melting(ice: i64, heat: i64) -> i64
@@ -57,6 +58,7 @@ impl IceCell {
         ensures water { water_of self.old +ℤ runoff.water ≡ water_of self.new +ℤ result.water }
         ensures heat { heat_of self.old +ℤ runoff.heat ≡ heat_of self.new +ℤ result.heat }
         ensures salt { self.old.skin.salt ≡ self.new.skin.salt +ℤ result.salt }
+        ensures amounts { IsSalty result }
         ensures cell { IsIceCell self.new }
     {
         self.freeze(rates);

@@ -1,5 +1,6 @@
 -- The land: gains of a fast step, and runoff.
-use Rattle.std.specs.Prelude.{ℕ, ◌-◌, ◌*◌, ◌/◌, min, ℤ, pos, ◌+ℤ◌, ◌-ℤ◌, unsigned_abs}
+use Rattle.std.specs.Prelude.{ℕ, ◌-◌, ◌*◌, ◌/◌, min, ℤ, pos, ◌+ℤ◌, ◌-ℤ◌}
+pub use Rattle.cpl_fixed.specs.Amounts.{amount}
 use Rattle.cpl_fixed.specs.Ranges.{IsFromℤ}
 use Rattle.cpl_fixed.specs.declared.limits.TheConstants.{MOST_AREA, MOST_TOTAL, WATER_HEAT}
 use Rattle.cpl_fixed.specs.declared.gain.Gain.{Gain}
@@ -20,10 +21,6 @@ pub record CanGain (cell : LandCell) (gain : Gain) : Type 0 where
 -- the cell with what it gains
 abbrev pub gained : LandCell → Gain → LandCell
 gained cell gain = record { heat = cell.heat +ℤ gain.heat; water = cell.water +ℤ gain.water; area = cell.area }
-
--- an amount, which isn't negative, as a natural number
-abbrev pub amount : ℤ → ℕ
-amount x = unsigned_abs x
 
 -- the water above what the area holds
 abbrev pub runoff_water : Rates → LandCell → ℕ

@@ -6,7 +6,7 @@ use Rattle.cpl_ice.specs.declared.cell.IceCell.{IceCell}
 use Rattle.cpl_ice.specs.declared.parts.Salty.{Salty}
 use Rattle.cpl_ice.specs.Cells.{nothing}
 use Rattle.cpl_ice.specs.Slow.{before_melt, after_melt}
-use Rattle.cpl_ice.proofs.Steps.{ridge_is, melt_is, after_keeps, sum_is}
+use Rattle.cpl_ice.proofs.Steps.{ridge_is, melt_is, after_keeps, sum_is, sum_amount}
 use Rattle.cpl_ice.proofs.Totals.{total_least}
 use Rattle.cpl_ice.proofs.cell.IceCell.slow.Goals as goal
 
@@ -104,3 +104,19 @@ returns-clause-returned c =
     let salt_own : to_z w64 (of_z w64 c.melt-melt.new.self.skin.salt) ≡ c.melt-melt.new.self.skin.salt = omega (arith, ints, c.melt-melt.ensures.cell.skin.salt.0, c.melt-melt.ensures.cell.skin.salt.1) in
     let salt = salt_own ∙ ap (λ (s : Salty). s.salt) keeps.skin in
     λ i. record { water = water i; heat = heat i; salt = salt i }
+
+pub returns-clause-amounts : goal.returns-clause-amounts
+returns-clause-amounts c =
+    let ridge = ridge_is c.args.rates.now c.args.self.now c.freeze.new.self c.ridge.new.self c.freeze.ensures.value c.ridge.ensures.value in
+    let melt = melt_is c.args.rates.now c.args.self.now c.ridge.new.self c.melt-melt.new.self ridge c.melt-melt.ensures.value in
+    let keeps = after_keeps c.args.rates.now c.args.self.now c.melt-melt.new.self melt in
+    let water_skin : c.melt-melt.new.self.skin.water ≡ c.args.self.now.skin.water = ap (λ (s : Salty). s.water) keeps.skin in
+    let heat_skin : c.melt-melt.new.self.skin.heat ≡ c.args.self.now.skin.heat = ap (λ (s : Salty). s.heat) keeps.skin in
+    let salt_is : to_z w64 (of_z w64 c.melt-melt.new.self.skin.salt) ≡ c.melt-melt.new.self.skin.salt = omega (arith, ints, c.melt-melt.ensures.cell.skin.salt.0, c.melt-melt.ensures.cell.skin.salt.1) in
+    let water_rest = total_least c.melt-melt.new.self.ice c.melt-melt.ensures.cell.ice in
+    let heat_rest = total_least c.melt-melt.new.self.heat c.melt-melt.ensures.cell.heat in
+    record {
+      water = sum_amount c.melt-melt.new.self.skin.water c.melt-melt.result.water c.args.runoff.water c.melt-melt.ensures.cell.skin.water.0 c.melt-melt.ensures.least.0 c.requires.runoff.runoff_water (omega (arith, ints, water_skin, water_rest, c.melt-melt.ensures.water, c.melt-melt.ensures.least.0, c.ridge.ensures.water, c.freeze.ensures.water, c.requires.runoff.water, c.requires.runoff.runoff_water, c.requires.cell.skin.water.0));
+      heat = sum_amount c.melt-melt.new.self.skin.heat c.melt-melt.result.heat c.args.runoff.heat c.melt-melt.ensures.cell.skin.heat.0 c.melt-melt.ensures.least.1 c.requires.runoff.runoff_heat (omega (arith, ints, heat_skin, heat_rest, c.melt-melt.ensures.heat, c.melt-melt.ensures.least.1, c.ridge.ensures.heat, c.freeze.ensures.heat, c.requires.runoff.heat, c.requires.runoff.runoff_heat, c.requires.cell.skin.heat.0));
+      salt = (omega (arith, ints, salt_is, c.melt-melt.ensures.cell.skin.salt.0), omega (arith, ints, salt_is, c.melt-melt.ensures.cell.skin.salt.1));
+    }

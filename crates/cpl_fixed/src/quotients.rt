@@ -1,9 +1,9 @@
 // Quotients of products.
 ghost use Rattle.std.specs.Prelude.{◌≡◌, ◌*◌, ◌/◌, ◌<◌, ◌≤◌, ◌^◌, min};
 
-// The quotient, in 64 bits where both numbers fit: a division in 128 bits is several times slower.
+/// The quotient, rounded down, in 64 bits where both numbers fit: a division in 128 bits is several times slower.
 #[inline]
-pub(crate) fn quotient(n: u128, d: u128) -> u128
+pub fn quotient(n: u128, d: u128) -> u128
     requires { 0 < d }
     ensures { result ≡ n / d }
 {
