@@ -1,9 +1,7 @@
 -- A coupled grid that is read is a grid for the crates above.
 use Rattle.std.proofs.Common.{◌≡◌, refl, sym, ap, List, Option, Some, None, Result, Ok, Err}
 use Rattle.std.specs.Prelude.{IfOk, All}
-use Rattle.std.proofs.lemmas.List.Elements.{All-nil, All-cons, All-head, All-tail}
 use Rattle.cpl_fixed.specs.Ranges.{IsFromℤ}
-use Rattle.cpl_fixed.specs.Results.{Returns}
 use Rattle.cpl_fixed.specs.declared.limits.TheConstants.{MOST_WEIGHT}
 use Rattle.cpl_fixed.specs.declared.words.Component.TheVariants.{Land, Ocean}
 use Rattle.cpl_xgrid.specs.declared.grid.Grid.{Grid}

@@ -14,4 +14,4 @@ mod reader;
 
 pub use fault::GridError;
 pub use print::print_grid;
-pub use read::{read_air, read_grid};
+pub use read::{read_air, read_grid, take_grid};

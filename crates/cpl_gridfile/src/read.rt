@@ -113,3 +113,14 @@ pub fn read_grid(alloc: Global, bytes: &[u8]) -> Result<Grid, GridError>
 {
     coupled_grid(alloc, bytes)
 }
+
+/// As `read_grid`, of bytes that are its own: they are freed once their lines are read, before the lists of the exchange grid
+/// are made. So it takes less memory at once.
+pub fn take_grid(alloc: Global, bytes: Vec<u8>) -> Result<Grid, GridError>
+    ensures found { IfOk result IsCoupledGrid }
+    ensures exact { Returns is_memory result (coupled_grid_of bytes.items) }
+{
+    let reader = lines(alloc, GridKind::Coupled, &bytes)?;
+    drop(bytes);
+    coupled(alloc, reader)
+}

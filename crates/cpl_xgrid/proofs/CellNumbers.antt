@@ -18,10 +18,10 @@ use Rattle.cpl_xgrid.specs.Indexes.{AreCells, for_cells, by_cell}
 use Rattle.cpl_xgrid.proofs.Offsets.{same_range}
 
 -- the test of cells decides equality
-same_cell : (a b : CellId) → is_same_cell a b ≡ true → a ≡ b
+pub same_cell : (a b : CellId) → is_same_cell a b ≡ true → a ≡ b
 same_cell a b e = ap (λ (s : CellId × _). s.0) (same_side (a, W) (b, W) (and_from _ _ e refl))
 
-own_cell : (a : CellId) → is_same_cell a a ≡ true
+pub own_cell : (a : CellId) → is_same_cell a a ≡ true
 own_cell a = (and_parts _ _ (own_side (a, W))).0
 
 -- a cell that the test finds is one of the mosaic
@@ -33,7 +33,7 @@ not_same : (a b : CellId) → (a ≡ b → ⊥) → is_same_cell a b ≡ false
 not_same a b other = elim (cases_Bool (is_same_cell a b)) [ inl same ↦ absurd (other (same_cell a b same)) | inr e ↦ e ]
 
 -- a cell has this number where it is this cell
-test_agrees : (tiles : List Tile) (cell : CellId) (k : ℕ) → NumbersAgree tiles → IsCellOf tiles cell → k < cells_of tiles → eqb (number_of tiles cell) k ≡ is_same_cell cell (cell_of tiles k)
+pub test_agrees : (tiles : List Tile) (cell : CellId) (k : ℕ) → NumbersAgree tiles → IsCellOf tiles cell → k < cells_of tiles → eqb (number_of tiles cell) k ≡ is_same_cell cell (cell_of tiles k)
 test_agrees tiles cell k agree is within = elim (cases_eq (number_of tiles cell) k) [
   | inl same ↦
       let back : cell ≡ cell_of tiles k = sym (agree.cell_number cell is) ∙ ap (cell_of tiles) same in

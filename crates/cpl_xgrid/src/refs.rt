@@ -69,6 +69,7 @@ pub(crate) fn sum_air(
     let _count = air.mosaic.cells();
     let cells = air_cells(alloc, land_rows, ocean_rows)?;
     let groups = by_cell(alloc, &air.mosaic, &cells)?;
+    drop(cells);
     let refs = groups.refs(alloc, land_rows.len() as u32)?;
     check_sums(
         Parent::Air,
@@ -97,6 +98,7 @@ pub(crate) fn sum_land(
     let _count = land.mosaic.cells();
     let cells = other_cells(alloc, land_rows)?;
     let groups = by_cell(alloc, &land.mosaic, &cells)?;
+    drop(cells);
     let refs = groups.refs(alloc, land_rows.len() as u32)?;
     check_sums(
         Parent::Land,
@@ -125,6 +127,7 @@ pub(crate) fn sum_ocean(
     let _count = ocean.mosaic.cells();
     let cells = other_cells(alloc, ocean_rows)?;
     let groups = by_cell(alloc, &ocean.mosaic, &cells)?;
+    drop(cells);
     let refs = groups.refs(alloc, 0)?;
     check_sums(
         Parent::Ocean,

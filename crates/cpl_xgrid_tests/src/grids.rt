@@ -3,11 +3,12 @@ ghost use Rattle.std.specs.Prelude.{All, IfOk};
 ghost use Rattle.std.specs.Bool.{OnTrue};
 ghost use Rattle.cpl_fixed.specs.Ranges.{IsFromℤ};
 ghost use Rattle.cpl_fixed.specs.declared.limits.TheConstants.{MOST_AREA as GREATEST_AREA, MOST_WEIGHT as GREATEST_WEIGHT};
+ghost use Rattle.cpl_xgrid.specs.Grids.{IsGrid};
 ghost use Rattle.cpl_xgrid.specs.Lists.{IsArea, IsMesh};
 
 use cpl_fixed::List;
 use cpl_mosaic::{CellId, Mesh, Mosaic, Tile};
-use cpl_xgrid::{Outlet, XGrid, XGridError, XRow};
+use cpl_xgrid::{Column, Grid, Outlet, XGrid, XGridError, XRow};
 use cpl_xput::XPut;
 use std::alloc::{AllocError, Global};
 
@@ -105,8 +106,10 @@ fn ways(alloc: Global, list: &[(u32, u32, i64)]) -> Result<Vec<Outlet>, AllocErr
         .collect(alloc)
 }
 
-/// The exchange grid of these lists. Those past the limits count as no memory here.
-pub(crate) fn build(alloc: Global, lists: Lists<'_>) -> Result<XGrid, XGridError> {
+/// The coupled grid of these lists, with two categories of ice. Lists past the limits count as no memory here.
+pub(crate) fn grid(alloc: Global, lists: Lists<'_>) -> Result<Grid, XGridError>
+    ensures { IfOk result IsGrid }
+{
     let air = mesh(alloc, lists.air)?;
     let land = mesh(alloc, lists.land)?;
     let ocean = mesh(alloc, lists.ocean)?;
@@ -119,7 +122,17 @@ pub(crate) fn build(alloc: Global, lists: Lists<'_>) -> Result<XGrid, XGridError
     if !have_areas(&land_rows) || !have_areas(&ocean_rows) || !have_weights(&outlets) {
         return Err(XGridError::Memory);
     }
-    XGrid::build(alloc, &air, &land, &ocean, land_rows, ocean_rows, outlets)
+    let xgrid = XGrid::build(alloc, &air, &land, &ocean, land_rows, ocean_rows, outlets)?;
+    Ok(Grid {
+        air,
+        land,
+        ocean,
+        xgrid,
+        column: Column {
+            layers: 1,
+            categories: 2,
+        },
+    })
 }
 
 /// The area of an exchange cell over three parts, where they are parts of a cell.

@@ -2,9 +2,11 @@
 //! divided by shares.
 #![tactic(auto)]
 
+mod elements;
 mod pieces;
 mod shares;
 mod sums;
 mod xput;
 
+pub use sums::sums_law;
 pub use xput::XPut;

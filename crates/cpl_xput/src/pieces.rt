@@ -2,6 +2,7 @@
 ghost use Rattle.std.specs.Prelude.{◌≡◌, ◌<◌, ◌≤◌, ◌^◌, length, map, IfOk};
 ghost use Rattle.cpl_fixed.specs.declared.limits.TheConstants.{MOST_EXCHANGE_CELLS};
 ghost use Rattle.cpl_mosaic.specs.Sides.{IsCellOf};
+ghost use Rattle.cpl_layout.specs.Owners.{OwnersAgree};
 ghost use Rattle.cpl_layout.specs.Pieces.{owner_of};
 ghost use Rattle.cpl_xgrid.specs.Indexes.{AreCells};
 ghost use Rattle.cpl_xput.specs.Places.{place_of, for_pieces};
@@ -52,7 +53,8 @@ pub(crate) fn for_pieces(
 ) -> Result<Groups<u32>, AllocError>
     requires cells { AreCells layout.now.tiles cells.now }
     requires few { length cells.now ≤ MOST_EXCHANGE_CELLS }
-    ensures { IfOk result (λ groups. groups ≡ for_pieces layout.now cells.now) }
+    ensures places { IfOk result (λ groups. groups ≡ for_pieces layout.now cells.now) }
+    ensures owners { OwnersAgree layout.now }
 {
     let count = layout.pieces();
     let owners = owners_of(alloc, layout, cells)?;

@@ -1,14 +1,16 @@
 // What crosses between the pieces of the air and those of the surface.
-ghost use Rattle.std.specs.Prelude.{◌≡◌, ◌<◌, ◌≤ℤ◌, [], length, map, pos, IfOk, slice_index_or};
+ghost use Rattle.std.specs.Prelude.{◌≡◌, ◌<◌, ◌≤ℤ◌, [], length, map, pos, IfOk, slice_index, slice_index_or};
 ghost use Rattle.cpl_fixed.specs.declared.limits.TheConstants.{PARTS};
 ghost use Rattle.cpl_fixed.specs.Totals.{total_of};
 ghost use Rattle.cpl_fixed.specs.Shares.{CanShare, shares_of};
 ghost use Rattle.cpl_xgrid.specs.Grids.{IsGrid};
 ghost use Rattle.cpl_xput.specs.Sums.{ArePlaces, SumsFit, copied, sums_of};
 ghost use Rattle.cpl_xput.specs.Exchanges.{AreLayouts, exchange_of, surface_of, weight, weights_of};
+ghost use Rattle.cpl_xput.specs.Laws.{IsExchange};
 ghost use Rattle.cpl_xgrid.specs.Indexes.{for_cells};
 ghost use Rattle.cpl_xgrid.specs.Rules.{tiles_of};
 
+use crate::elements::elements_of;
 use crate::pieces::for_pieces;
 use crate::shares::share_out;
 use crate::sums::{add_values, copy_values};
@@ -19,12 +21,14 @@ use std::alloc::{AllocError, Global};
 use std::marker::Model;
 
 /// The exchange cells of each piece, in element order: the land list, then the ocean list, each in the order of the file.
-/// Contracts see the places of their cells in the piece, row by row, and the weights of the outlets of each cell of the land.
+/// Contracts see the places of their cells in the piece, row by row, how many elements each cell of the air has, and the weights
+/// of the outlets of each cell of the land.
 #[derive(Drop)]
 pub struct XPut {
     air: Groups<u32>,
     land: Groups<u32>,
     ocean: Groups<u32>,
+    elements: Vec<u32>,
     weights: Groups<i64>,
 }
 
@@ -33,7 +37,7 @@ impl Model for XPut {
 
     ghost Value = { Exchange };
 
-    ghost view = { λ a. record { air = a.air; land = a.land; ocean = a.ocean; weights = a.weights } };
+    ghost view = { λ a. record { air = a.air; land = a.land; ocean = a.ocean; elements = a.elements.items; weights = a.weights } };
 }
 
 // The weights of outlets.
@@ -57,7 +61,8 @@ fn drains_of(alloc: Global, grid: &Grid) -> Result<Groups<i64>, AllocError>
 
 impl XPut {
     /// Finds the exchange cells of each piece of three layouts of a grid's mosaics: of the air, the land and the ocean. It
-    /// takes memory for the places of the exchange cells and the weights of the outlets, and time linear in them.
+    /// takes memory for the places of the exchange cells, the numbers of elements and the weights of the outlets, and time linear
+    /// in them.
     pub fn new(
         alloc: Global,
         grid: &Grid,
@@ -67,7 +72,8 @@ impl XPut {
     ) -> Result<XPut, AllocError>
         requires grid { IsGrid grid.now }
         requires layouts { AreLayouts grid.now air.now land.now ocean.now }
-        ensures { IfOk result (λ xput. xput ≡ exchange_of grid.now air.now land.now ocean.now) }
+        ensures exchange { IfOk result (λ xput. xput ≡ exchange_of grid.now air.now land.now ocean.now) }
+        ensures law { IfOk result (IsExchange grid.now air.now land.now ocean.now) }
     {
         let lands = grid.xgrid.rows(Surface::Land);
         let oceans = grid.xgrid.rows(Surface::Ocean);
@@ -78,6 +84,7 @@ impl XPut {
             air: for_pieces(alloc, air, &of_air)?,
             land: for_pieces(alloc, land, &of_land)?,
             ocean: for_pieces(alloc, ocean, &of_ocean)?,
+            elements: elements_of(alloc, grid)?,
             weights: drains_of(alloc, grid)?,
         })
     }
@@ -93,6 +100,33 @@ impl XPut {
         share_out(area, parts, b);
     }
 
+    /// The places of the exchange cells of a piece of the air, in element order.
+    pub fn air_places(&self, piece: u32) -> &[u32]
+        requires { piece < length self.now.air }
+        ensures { result.now ≡ slice_index_or self.now.air piece [] }
+    {
+        self.air.at(piece)
+    }
+
+    /// The places of the exchange cells of a piece of a surface, in the order of the file.
+    pub fn surface_places(&self, surface: Surface, piece: u32) -> &[u32]
+        requires { piece < length (surface_of self.now surface) }
+        ensures { result.now ≡ slice_index_or (surface_of self.now surface) piece [] }
+    {
+        match surface {
+            Surface::Land => self.land.at(piece),
+            Surface::Ocean => self.ocean.at(piece),
+        }
+    }
+
+    /// The weights of the outlets of a cell of the land, by its number in whole order, in the order of the file.
+    pub fn weights(&self, cell: u32) -> &[i64]
+        requires { cell < length self.now.weights }
+        ensures { result.now ≡ slice_index_or self.now.weights cell [] }
+    {
+        self.weights.at(cell)
+    }
+
     /// Copies the values of the cells of a piece of the air, row by row, to its exchange cells.
     pub fn put(&self, piece: u32, values: &[i64], to: &mut [i64])
         requires piece { piece < length self.now.air }
@@ -100,7 +134,7 @@ impl XPut {
         requires room { length to.old ≡ length (slice_index_or self.now.air piece []) }
         ensures { to.new ≡ copied (slice_index_or self.now.air piece []) values.now }
     {
-        copy_values(self.air.at(piece), values, to);
+        copy_values(self.air_places(piece), values, to);
     }
 
     /// Adds the values of the exchange cells of a piece of a surface up, and writes the sum of each of its cells, row by row.
@@ -112,16 +146,23 @@ impl XPut {
         requires sums { SumsFit (slice_index_or (surface_of self.now surface) piece []) rows.now }
         ensures { to.new ≡ sums_of (length to.old) (slice_index_or (surface_of self.now surface) piece []) rows.now }
     {
-        let places = match surface {
-            Surface::Land => self.land.at(piece),
-            Surface::Ocean => self.ocean.at(piece),
-        };
-        add_values(places, rows, to);
+        add_values(self.surface_places(surface, piece), rows, to);
     }
 
-    /// Divides an amount of a cell of the air over its elements by weights, one for each, in element order: each has its share.
-    /// The weights are 0 or above and sum to 1 to 2^62 - 1.
+    /// How many elements a cell of the air has, by its number in whole order: one for each exchange cell of the land list, and for
+    /// each of the ocean list one for open water and one for each category of ice.
+    pub fn elements(&self, cell: u32) -> u32
+        requires { cell < length self.now.elements }
+        ensures { result ≡ slice_index self.now.elements cell }
+    {
+        self.elements[cell as usize]
+    }
+
+    /// Divides an amount of a cell of the air, by its number in whole order, over its elements by weights, one for each, in
+    /// element order: each has its share. The weights are 0 or above and sum to 1 to 2^62 - 1.
     pub fn split(&self, _cell: u32, amount: i64, weights: &[i64], to: &mut [i64])
+        requires cell { _cell < length self.now.elements }
+        requires elements { length weights.now ≡ slice_index self.now.elements _cell }
         requires can { CanShare amount weights.now }
         requires most { total_of weights.now ≤ℤ pos MOST_TOTAL }
         requires room { length to.old ≡ length weights.now }
@@ -139,6 +180,6 @@ impl XPut {
         requires room { length to.old ≡ length (slice_index_or self.now.weights cell []) }
         ensures { to.new ≡ shares_of amount (slice_index_or self.now.weights cell []) }
     {
-        share_out(amount, self.weights.at(cell), to);
+        share_out(amount, self.weights(cell), to);
     }
 }

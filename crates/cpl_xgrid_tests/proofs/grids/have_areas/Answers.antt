@@ -1,4 +1,4 @@
-use Rattle.std.proofs.Common.{get_or, pos, rules, arith}
+use Rattle.std.proofs.Common.{get_or, rules, arith}
 use mir.Val.{SFits}
 use mir.Syntax.{w64}
 use Rattle.std.proofs.lemmas.Int.{ints}

@@ -12,8 +12,8 @@ by_key-requires-clause-keys c =
     let counted = subst (λ (m : ℕ). AreKeys m (map (owner_of c.args.layout.now) c.args.cells.now)) (sym c.pieces-count.ensures.count) keys in
     subst (λ (l : List ℕ). AreKeys c.pieces-count.result l) (sym (c.deref.ensures.value ∙ c.in_ok-owners.ensures)) counted
 
-pub returns : goal.returns
-returns c =
+pub returns-clause-places : goal.returns-clause-places
+returns-clause-places c =
     let layout = c.args.layout.now in
     let groups : c.in_ok-groups.groups ≡ by_key (pieces_of layout) (map (owner_of layout) c.args.cells.now) =
     c.in_ok-groups.ensures ∙ ap (λ (m : ℕ). by_key m c.deref.result.now) c.pieces-count.ensures.count ∙ ap (by_key (pieces_of layout)) (c.deref.ensures.value ∙ c.in_ok-owners.ensures) in
