@@ -12,9 +12,10 @@ use Rattle.cpl_mosaic.specs.Mates.{or_joined, mate_of}
 use Rattle.cpl_layout.specs.declared.piece.Piece.{Piece}
 use Rattle.cpl_layout.specs.Owners.{Holds, IsPieceOf, cell_in, place_in}
 use Rattle.cpl_strip.specs.declared.parts.Hole.{Hole}
-use Rattle.cpl_strip.specs.Orders.{LessThen, less_then}
+use Rattle.cpl_faces.specs.Orders.{LessThen, less_then}
 use Rattle.cpl_strip.specs.Holes.{edge_of, edge_place, side_at, IsHoleOf}
-use Rattle.cpl_strip.specs.Faces.{rank, Comes, IsAlong}
+use Rattle.cpl_faces.specs.Faces.{rank, Comes}
+use Rattle.cpl_strip.specs.Faces.{IsAlong}
 use Rattle.cpl_strip.specs.Taken.{comes}
 use Rattle.cpl_strip.proofs.Bundles.{some_same}
 

@@ -15,7 +15,8 @@ use Rattle.cpl_layout.specs.Owners.{Holds, IsPieceOf, IsPlaceOf, OwnersAgree, pl
 use Rattle.cpl_strip.specs.declared.parts.FaceStrip.{FaceStrip}
 use Rattle.cpl_strip.specs.declared.faces.Across.{Across}
 use Rattle.cpl_strip.specs.Holes.{side_at}
-use Rattle.cpl_strip.specs.Faces.{Comes, IsFace, IsAlong, IsCrossed, Spot, spot_of, FaceLink, FaceIsWithin, face_link, face_strip_at, face_link_at, FaceStandsAt, FacePrecedes, AreFaceStrips}
+use Rattle.cpl_faces.specs.Faces.{Comes, IsFace}
+use Rattle.cpl_strip.specs.Faces.{IsAlong, IsCrossed, Spot, spot_of, FaceLink, FaceIsWithin, face_link, face_strip_at, face_link_at, FaceStandsAt, FacePrecedes, AreFaceStrips}
 use Rattle.cpl_strip.specs.Rounds.{nth_hole}
 use Rattle.cpl_strip.specs.Tables.{picks, IsFilled, made_at}
 use Rattle.cpl_strip.specs.Taken.{comes, if_second, face_taken, side_takes, holes_in, face_strip_made}

@@ -1,33 +1,16 @@
 -- Which face strips there are.
-use Rattle.std.specs.Prelude.{◌≡◌, ◌≢◌, ℕ, ◌+◌, ◌<◌, ◌≤◌, ◌⊎◌, List, [], length, Some, slice_index_or}
+use Rattle.std.specs.Prelude.{◌≡◌, ◌≢◌, ℕ, ◌+◌, ◌<◌, ◌≤◌, ◌⊎◌, List, [], length, slice_index_or}
 use Rattle.cpl_mosaic.specs.declared.parts.Side.{Side}
 use Rattle.cpl_mosaic.specs.declared.parts.Side.TheVariants.{W, E, S, N}
 use Rattle.cpl_mosaic.specs.Lists.{MosaicLists}
-use Rattle.cpl_mosaic.specs.Sides.{CellSide, IsCellOf}
-use Rattle.cpl_mosaic.specs.Mates.{mate_of}
+use Rattle.cpl_mosaic.specs.Sides.{CellSide}
+use Rattle.cpl_faces.specs.Orders.{LessThen}
+use Rattle.cpl_faces.specs.Faces.{IsFace}
 use Rattle.cpl_layout.specs.declared.piece.Piece.{Piece}
 use Rattle.cpl_layout.specs.Layouts.{Cuts}
 use Rattle.cpl_layout.specs.Pieces.{pieces_of, piece_of, owner_of}
 use Rattle.cpl_layout.specs.Owners.{place_in, IsPlaceOf}
 use Rattle.cpl_strip.specs.declared.parts.FaceStrip.{FaceStrip}
-use Rattle.cpl_strip.specs.Orders.{LessThen}
-
--- the sides of a cell in their order: W, E, S, N
-abbrev pub rank : Side → ℕ
-rank W = 0
-rank E = 1
-rank S = 2
-rank N = 3
-
--- one side comes before another: by tile, then row, then column, then W, E, S, N
-abbrev pub Comes : CellSide → CellSide → Type 0
-Comes a b = LessThen a.0.tile b.0.tile (LessThen a.0.j b.0.j (LessThen a.0.i b.0.i (rank a.1 < rank b.1)))
-
--- a face of a mosaic: two sides that meet, of which one comes first
-pub record IsFace (mosaic : MosaicLists) (first second : CellSide) : Type 0 where
-  pub cell : IsCellOf mosaic.tiles first.0
-  pub mate : mate_of mosaic first ≡ Some second
-  pub order : Comes first second
 
 -- a side of a cell of a piece which lies along the piece's edge
 abbrev pub IsAlong : Piece → CellSide → Type 0

@@ -1,4 +1,3 @@
-pub mod Orders
 pub mod Holes
 pub mod Strips
 pub mod Faces

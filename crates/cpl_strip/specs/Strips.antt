@@ -8,7 +8,7 @@ use Rattle.cpl_layout.specs.Pieces.{pieces_of, piece_of, owner_of}
 use Rattle.cpl_layout.specs.Owners.{place_in, IsPlaceOf}
 use Rattle.cpl_strip.specs.declared.parts.Hole.{Hole}
 use Rattle.cpl_strip.specs.declared.parts.Strip.{Strip}
-use Rattle.cpl_strip.specs.Orders.{LessThen}
+use Rattle.cpl_faces.specs.Orders.{LessThen}
 use Rattle.cpl_strip.specs.Holes.{IsHoleOf, walk_to}
 
 -- a place of one piece beside a hole of another, or of the same

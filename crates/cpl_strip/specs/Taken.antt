@@ -13,9 +13,10 @@ use Rattle.cpl_strip.specs.declared.parts.Strip.{Strip}
 use Rattle.cpl_strip.specs.declared.parts.FaceStrip.{FaceStrip}
 use Rattle.cpl_strip.specs.declared.halos.Beside.{Beside}
 use Rattle.cpl_strip.specs.declared.faces.Across.{Across}
-use Rattle.cpl_strip.specs.Orders.{less_then}
+use Rattle.cpl_faces.specs.Orders.{less_then}
 use Rattle.cpl_strip.specs.Holes.{side_at, walk_to}
-use Rattle.cpl_strip.specs.Faces.{rank, spot_of}
+use Rattle.cpl_faces.specs.Faces.{rank}
+use Rattle.cpl_strip.specs.Faces.{spot_of}
 use Rattle.cpl_strip.specs.Rounds.{nth_hole, hole_count}
 
 -- a hole of a piece beside the place of a cell, with the piece that has the cell

@@ -6,7 +6,8 @@ ghost use Rattle.cpl_mosaic.specs.Mates.{MatesAgree};
 ghost use Rattle.cpl_layout.specs.Pieces.{pieces_of};
 ghost use Rattle.cpl_layout.specs.Owners.{IsPieceOf};
 ghost use Rattle.cpl_strip.specs.Holes.{IsHoleOf, side_at};
-ghost use Rattle.cpl_strip.specs.Faces.{AreFaceStrips, rank, spot_of};
+ghost use Rattle.cpl_faces.specs.Faces.{rank};
+ghost use Rattle.cpl_strip.specs.Faces.{AreFaceStrips, spot_of};
 ghost use Rattle.cpl_strip.specs.Tables.{IsFilled, picks, made_at};
 ghost use Rattle.cpl_strip.specs.Taken.{holes_in, comes, face_taken, side_takes, face_strip_made};
 
