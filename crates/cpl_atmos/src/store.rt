@@ -1,19 +1,10 @@
 // Computed amounts, put into a field.
-ghost use Rattle.std.specs.Prelude.{◌≡◌, ℕ, ◌+◌, ◌*◌, ◌<◌, ◌≤◌, length, pos, slice_index_or};
+ghost use Rattle.std.specs.Prelude.{◌≡◌, ◌*◌, length};
 ghost use Rattle.cpl_field.specs.Spots.{IsSameShape};
 ghost use Rattle.cpl_atmos.specs.Rows.{StoresValues};
 
 use crate::areas::Areas;
-use cpl_field::Field;
-
-// Some of the numbers of a list, from a place on.
-fn part(list: &[i64], from: usize, count: usize) -> &[i64]
-    requires { from + count ≤ length list.now }
-    ensures count { length result.now ≡ count }
-    ensures each { (n : ℕ) → n < count → slice_index_or result.now n (pos 0) ≡ slice_index_or list.now (from + n) (pos 0) }
-{
-    &list[from..from + count]
-}
+use cpl_field::{Field, part};
 
 /// Sets the cells of a field to the computed amounts, row by row.
 pub(crate) fn store(areas: &Areas, values: &[i64], x: &mut Field)

@@ -73,8 +73,8 @@ fn step_out(column: u32, row: u32, side: Side, depth: u32) -> (u32, u32)
     }
 }
 
-// Some of the numbers of a list, from a place on.
-fn part(list: &[i64], from: usize, count: usize) -> &[i64]
+/// Some of the numbers of a list, from a place on, as those of a piece's row in a list of all cells.
+pub fn part(list: &[i64], from: usize, count: usize) -> &[i64]
     requires { from + count ≤ length list.now }
     ensures count { length result.now ≡ count }
     ensures each { (n : ℕ) → n < count → slice_index_or result.now n (pos 0) ≡ slice_index_or list.now (from + n) (pos 0) }

@@ -5,4 +5,4 @@ mod faces;
 mod field;
 
 pub use faces::Faces;
-pub use field::Field;
+pub use field::{Field, part};

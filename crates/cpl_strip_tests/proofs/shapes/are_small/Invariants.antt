@@ -1,7 +1,0 @@
-use Rattle.std.proofs.Common.{ℕ, ◌<◌, get_or}
-use Rattle.cpl_mosaic.specs.declared.parts.Tile.{Tile}
-use Rattle.cpl_strip_tests.specs.Small.{IsSmall}
-use Rattle.cpl_strip_tests.proofs.shapes.are_small.Given as goal
-
-abbrev pub invariant-loop-tile : goal.invariant-loop-tile
-invariant-loop-tile l = (k : ℕ) (d : Tile) → k < l.tile-index → IsSmall (get_or l.tiles k d)
