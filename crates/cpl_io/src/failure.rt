@@ -6,6 +6,7 @@ ghost use Rattle.cpl_io.specs.Failures.{access_call, failed_call};
 
 use crate::ShelfError;
 use std::alloc::Global;
+use std::io;
 
 /// What a call does to a file.
 #[derive(Clone, Copy)]
@@ -54,5 +55,22 @@ impl Failures {
         self.count = self.count.saturating_add(1);
         self.last = Some(FailedCall { access, name });
         Err(ShelfError::Failed)
+    }
+    /// What a call answers that met an error of the system: `Memory` where that was want of memory.
+    pub(crate) fn fail_by<T>(
+        &mut self,
+        error: &io::Error,
+        access: Access,
+        name: &str,
+    ) -> Result<T, ShelfError>
+        ensures faults_grow { self.old.count ≤ self.new.count }
+        ensures cause { FailedAfter (access_call access name.now) result self.old.count self.new.count
+            (failed_call self.old.last) (failed_call self.new.last) }
+        ensures err { IsErr result }
+    {
+        match error.kind() {
+            io::ErrorKind::OutOfMemory => Err(ShelfError::Memory),
+            _ => self.fail(access, name),
+        }
     }
 }

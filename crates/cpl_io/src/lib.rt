@@ -10,6 +10,7 @@ mod schedule;
 mod shelf;
 mod sink;
 mod sure;
+mod whole;
 
 pub use memory::{MemShelf, MemSink};
 pub use read::{ReadError, read_whole};

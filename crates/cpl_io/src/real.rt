@@ -4,32 +4,70 @@ ghost use Rattle.std.specs.FinMap as map;
 ghost use Rattle.cpl_io.specs.Failures.{failed_call};
 
 use crate::failure::{Access, Failures};
+use crate::whole::write_whole;
 use crate::{Shelf, ShelfError, Sink, SinkError};
-use std::alloc::Global;
+use std::alloc::{AllocError, Global};
 use std::fs::{File, OpenOptions};
 use std::io::{self, Read, Seek, SeekFrom, Write};
 use std::rt::Files;
 
+/// Names that were begun, and whose first bytes are still to come.
+#[derive(Drop)]
+struct Begun {
+    alloc: Global,
+    names: Vec<String>,
+}
+
+impl Begun {
+    fn has(&self, name: &str) -> bool {
+        self.names.iter().any(|begun| begun.as_str() == name)
+    }
+
+    fn add(&mut self, name: &str) -> Result<(), AllocError> {
+        if !self.has(name) {
+            self.names.push(String::from_str(self.alloc, name)?)?;
+        }
+        Ok(())
+    }
+
+    fn remove(&mut self, name: &str) {
+        self.names.retain(|begun| begun.as_str() != name);
+    }
+}
+
 /// Real files. A name is a path. Each call opens the file anew and closes it. Each failure counts, that of
-/// a file that is missing, is a directory or may not be read included. `begin` makes the file or empties
-/// it, `append` makes the file where there is none.
+/// a file that is missing, is a directory or may not be read included.
+///
+/// `begin` takes effect with the first `append` of its name, which gives the file these bytes in one step
+/// once they are on the disk: whatever fails, and wherever the program is stopped, the file that was there
+/// before stands whole or the new one does. They are gathered beside it in a file `coupler-part-0`, or the
+/// next number that is free, which stands only where the program was stopped. The file keeps its permissions
+/// and, as far as the system lets it, its owner; a symbolic link is followed and stays. A name that is no
+/// regular file, as a pipe, a device or `/dev/stdout`, is written as it is. A further `append` adds at the
+/// file's end, and makes the file where there is none.
 ///
 /// It tells no contents. That its calls do to the disk what their names say is trusted, and not proved.
 #[derive(Drop)]
 pub struct FileShelf<R> {
     rt: R,
+    alloc: Global,
+    begun: Begun,
     failures: Failures,
 }
 
 impl<R: Files + Drop> FileShelf<R> {
-    /// The files that the runtime reaches, with no failure so far. The allocator serves the copy of a
-    /// failed call's name.
+    /// The files that the runtime reaches, with no failure so far. The allocator serves the names of files.
     pub fn new(rt: R, alloc: Global) -> FileShelf<R>
         ensures faults { ⟦<FileShelf<R> as Shelf>⟧.faults result ≡ 0 }
         ensures failed { ⟦<FileShelf<R> as Shelf>⟧.failed result ≡ None }
     {
         FileShelf {
             rt,
+            alloc,
+            begun: Begun {
+                alloc,
+                names: Vec::new(alloc),
+            },
             failures: Failures::new(alloc),
         }
     }
@@ -58,23 +96,34 @@ impl<R: Files + Drop> Shelf for FileShelf<R> {
     ghost failed = { λ s. failed_call s.failures.last };
 
     fn read_at(&mut self, name: &str, from: u64, buf: &mut [u8]) -> Result<usize, ShelfError> {
+        if self.begun.has(name) {
+            return Ok(0);
+        }
         match read_real(&self.rt, name, from, buf) {
             Ok(count) => Ok(count),
-            Err(_) => self.failures.fail(Access::Reading, name),
+            Err(error) => self.failures.fail_by(&error, Access::Reading, name),
         }
     }
 
     fn begin(&mut self, name: &str) -> Result<(), ShelfError> {
-        match File::create(&self.rt, name) {
-            Ok(_) => Ok(()),
-            Err(_) => self.failures.fail(Access::Writing, name),
+        match self.begun.add(name) {
+            Ok(()) => Ok(()),
+            Err(_) => Err(ShelfError::Memory),
         }
     }
 
     fn append(&mut self, name: &str, bytes: &[u8]) -> Result<(), ShelfError> {
-        match append_real(&self.rt, name, bytes) {
-            Ok(()) => Ok(()),
-            Err(_) => self.failures.fail(Access::Writing, name),
+        let written = if self.begun.has(name) {
+            write_whole(&self.rt, self.alloc, name, bytes)
+        } else {
+            append_real(&self.rt, name, bytes)
+        };
+        match written {
+            Ok(()) => {
+                self.begun.remove(name);
+                Ok(())
+            }
+            Err(error) => self.failures.fail_by(&error, Access::Writing, name),
         }
     }
 }

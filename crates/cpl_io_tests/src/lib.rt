@@ -11,8 +11,10 @@ mod tests {
     use std::fs;
     use std::test::Fail;
 
-    // A file of the folder that the tests run in.
+    // Files of the folder that the tests run in.
     const NAME: &str = "cpl_io_tests.tmp";
+
+    const BEGUN: &str = "cpl_io_tests.begun.tmp";
 
     fn written<S: Shelf>(shelf: &mut S, name: &str) -> Result<(), ShelfError> {
         shelf.begin(name)?;
@@ -28,6 +30,12 @@ mod tests {
         written(&mut shelf, NAME)?;
         let bytes = read_whole(alloc, &mut shelf, NAME, 12)?;
         assert_eq!(rt; bytes.as_slice(), b"flux of heat".as_slice());
+
+        // What was there stands until the first bytes come, if only none.
+        shelf.begin(NAME)?;
+        assert_eq!(rt; fs::metadata(&rt, NAME)?.len(), 12);
+        shelf.append(NAME, b"")?;
+        assert_eq!(rt; fs::metadata(&rt, NAME)?.len(), 0);
         fs::remove_file(&rt, NAME)?;
         Ok(())
     }
@@ -40,11 +48,9 @@ mod tests {
             let read = read_whole(alloc, &mut shelf, name, 100);
             assert_eq!(rt; read.err(), Some(ReadError::Read));
         }
-        for name in [".", "", "no such folder/a", "a\0b"] {
-            assert_eq!(rt; shelf.begin(name), Err(ShelfError::Failed));
-        }
         for name in [".", "", "no such folder/a", "a\0b", "/dev/full"] {
             assert_eq!(rt; shelf.append(name, b"heat"), Err(ShelfError::Failed));
+            assert_eq!(rt; written(&mut shelf, name), Err(ShelfError::Failed));
         }
         Ok(())
     }
