@@ -1,0 +1,3 @@
+mod Pushed
+mod RowLines
+mod Writing

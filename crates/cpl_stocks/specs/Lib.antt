@@ -1,0 +1,4 @@
+pub mod Lines
+pub mod Writers
+pub mod Fields
+pub mod Tables
