@@ -1,0 +1,5 @@
+pub mod Bounds
+pub mod Columns
+pub mod Frazil
+pub mod Leaving
+pub mod Odd

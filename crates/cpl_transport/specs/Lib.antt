@@ -1,0 +1,5 @@
+pub mod Salts
+pub mod Heights
+pub mod Moves
+pub mod Mixing
+pub mod Cuts

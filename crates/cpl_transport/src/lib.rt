@@ -1,0 +1,13 @@
+//! The ocean's formulas on plain numbers, for one face and one column: heights of columns and the numbers of faces, what moves
+//! through a face, vertical exchange, and what leaves the top layer for the ice.
+#![tactic(auto)]
+
+mod cuts;
+mod heights;
+mod mixing;
+mod moves;
+
+pub use cuts::{cut, cut_law};
+pub use heights::{face_law, height, next_face};
+pub use mixing::{exchanged, mixing_law};
+pub use moves::{correction_law, given, through, through_law, turned};
