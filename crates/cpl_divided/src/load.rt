@@ -1,5 +1,5 @@
 // Whole lists, put into the fields of pieces and taken out again.
-ghost use Rattle.std.specs.Prelude.{◌≡◌, ℕ, ◌+◌, ◌^◌, ◌<◌, ◌≤◌, length, pos, IfOk, slice_index_or};
+ghost use Rattle.std.specs.Prelude.{◌≡◌, ℕ, ◌^◌, ◌<◌, length, pos, IfOk};
 ghost use Rattle.cpl_mosaic.specs.declared.parts.Side.{Side};
 ghost use Rattle.cpl_mosaic.specs.Contacts.{cells_of};
 ghost use Rattle.cpl_mosaic.specs.Cells.{NumbersAgree};
@@ -7,19 +7,10 @@ ghost use Rattle.cpl_layout.specs.Owners.{IsPieceOf};
 ghost use Rattle.cpl_field.specs.Spots.{HoleAt, IsSpot, number_at};
 ghost use Rattle.cpl_divided.specs.Whole.{IsFieldOf, AreFields, HasCells, HoldWhole, Gathers};
 
-use cpl_field::Field;
+use cpl_field::{Field, part};
 use cpl_layout::{Layout, Piece};
 use cpl_mosaic::{CellId, Mosaic};
 use std::alloc::{AllocError, Global};
-
-// Some of the numbers of a list, from a place on.
-fn part(list: &[i64], from: usize, count: usize) -> &[i64]
-    requires { from + count ≤ length list.now }
-    ensures count { length result.now ≡ count }
-    ensures each { (n : ℕ) → n < count → slice_index_or result.now n (pos 0) ≡ slice_index_or list.now (from + n) (pos 0) }
-{
-    &list[from..from + count]
-}
 
 // The field of a piece with the numbers of a whole list at its cells, and 0 in its holes.
 fn load_piece(

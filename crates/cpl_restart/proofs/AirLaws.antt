@@ -7,7 +7,7 @@ use Rattle.std.specs.List.{AllByRecursion}
 use Rattle.std.proofs.lemmas.Int.{ints}
 use Rattle.std.proofs.lemmas.List.{append-nil}
 use Rattle.std.proofs.lemmas.List.Elements.{All-from_recursion, recursion_from_All}
-use Rattle.cpl_restart.specs.Numbers.{section_bytes, is_negative, IsAmount}
+use Rattle.cpl_restart.specs.Numbers.{section_bytes, is_negative, IsStored}
 use Rattle.cpl_fixed.specs.Results.{◌>>=◌}
 use Rattle.cpl_restart.specs.Sections.{after_mark, section_at, nothing_after, no_negative}
 use Rattle.cpl_restart.specs.AirBytes.{Reads, IsAir, air_mark, air_bytes, air_of}
@@ -16,19 +16,19 @@ use Rattle.cpl_restart.specs.declared.start_error.StartError.{StartError}
 use Rattle.cpl_restart.proofs.Words.{IsBytes}
 use Rattle.cpl_restart.proofs.Parts.{bind_at, bind_ok, ok_is, Takes-then, mark_takes, mark_again, section_takes, section_again, end_takes, signs_take, signs_again}
 
-amount : (x : ℤ) → FitsSigned w64 x → is_negative x ≡ false → IsAmount x
+amount : (x : ℤ) → FitsSigned w64 x → is_negative x ≡ false → IsStored x
 amount (pos n) fits e = (omega (arith, ints), omega (arith, ints))
 amount (negsuc n) fits e = absurd cc
 
-word : (x : ℤ) → IsAmount x → FitsSigned w64 x × (is_negative x ≡ false)
+word : (x : ℤ) → IsStored x → FitsSigned w64 x × (is_negative x ≡ false)
 word (pos n) h = (record { sfits = omega (arith, ints, h.1) }, refl)
 word (negsuc n) h = absurd (omega (arith, ints, h.0))
 
-amounts : (xs : List ℤ) → AllByRecursion (FitsSigned w64) xs → AllByRecursion (λ x. is_negative x ≡ false) xs → AllByRecursion IsAmount xs
+pub amounts : (xs : List ℤ) → AllByRecursion (FitsSigned w64) xs → AllByRecursion (λ x. is_negative x ≡ false) xs → AllByRecursion IsStored xs
 amounts [] fits signs = tt
 amounts (x ∷ xs) fits signs = (amount x fits.0 signs.0, amounts xs fits.1 signs.1)
 
-words : (xs : List ℤ) → AllByRecursion IsAmount xs → AllByRecursion (FitsSigned w64) xs × AllByRecursion (λ x. is_negative x ≡ false) xs
+pub words : (xs : List ℤ) → AllByRecursion IsStored xs → AllByRecursion (FitsSigned w64) xs × AllByRecursion (λ x. is_negative x ≡ false) xs
 words [] h = (tt, tt)
 words (x ∷ xs) h = (((word x h.0).0, (words xs h.1).0), ((word x h.0).1, (words xs h.1).1))
 
@@ -67,8 +67,8 @@ air_takes cells bytes air fits e =
     let is : IsAir cells (made b.0.0 c.0.0) = record {
       heat_length = heat.1.count;
       vapour_length = vapour.1.count;
-      heat = All-from_recursion IsAmount b.0.0 (amounts b.0.0 heat.1.each (signs_take 1 b.0.0 h.1));
-      vapour = All-from_recursion IsAmount c.0.0 (amounts c.0.0 vapour.1.each (signs_take 2 c.0.0 v.1));
+      heat = All-from_recursion IsStored b.0.0 (amounts b.0.0 heat.1.each (signs_take 1 b.0.0 h.1));
+      vapour = All-from_recursion IsStored c.0.0 (amounts c.0.0 vapour.1.each (signs_take 2 c.0.0 v.1));
     } in
     subst (λ (x : Air). IsAir cells x × (bytes ≡ air_bytes x)) (ok_is (made b.0.0 c.0.0) air v.2) (is, whole)
 
@@ -77,8 +77,8 @@ unfolding air_of
 air_again cells air small is =
     let heat = section_bytes air.heat in
     let vapour = section_bytes air.vapour in
-    let h = words air.heat (recursion_from_All IsAmount air.heat is.heat) in
-    let v = words air.vapour (recursion_from_All IsAmount air.vapour is.vapour) in
+    let h = words air.heat (recursion_from_All IsStored air.heat is.heat) in
+    let v = words air.vapour (recursion_from_All IsStored air.vapour is.vapour) in
     let grouped : air_bytes air ≡ air_mark ++ (heat ++ (vapour ++ [])) = append_assoc air_mark heat vapour ∙ ap (λ (r : List ℕ). air_mark ++ (heat ++ r)) (sym (append-nil vapour)) in
     ap (air_of cells) grouped
     ∙ bind_at (after_mark air_mark (air_mark ++ (heat ++ (vapour ++ [])))) (heat ++ (vapour ++ [])) (with_heat cells) (mark_again air_mark (heat ++ (vapour ++ [])) refl)

@@ -90,7 +90,7 @@ is_second_negative cells index air small has none found =
     ∙ bind_err (no_negative 2 air.vapour) (Negative 2 index) (λ v. Ok air) (ap (no_negative_at 2) found)
 
 -- a front that ends behind the first part
-take_past : (xs ys : List ℕ) (n : ℕ) → length xs ≤ n → take n (xs ++ ys) ≡ xs ++ take (n - length xs) ys
+pub take_past : (xs ys : List ℕ) (n : ℕ) → length xs ≤ n → take n (xs ++ ys) ≡ xs ++ take (n - length xs) ys
 take_past xs ys n le =
     let split : n ≡ length xs + (n - length xs) = omega arith in
     ap (λ (k : ℕ). take k (xs ++ ys)) split ∙ take-append-add xs ys (n - length xs)

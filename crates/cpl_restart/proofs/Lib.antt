@@ -2,3 +2,14 @@ pub mod Words
 pub mod Parts
 pub mod AirLaws
 pub mod Faults
+pub mod Steps
+pub mod Least
+pub mod Spots
+pub mod Sums
+pub mod Cells
+pub mod SectionSteps
+pub mod RestartParts
+pub mod Tests
+pub mod LawfulLaws
+pub mod RestartLaws
+pub mod RestartFaults

@@ -26,18 +26,18 @@ bind_ok (Err d) f y e = absurd cc
 pub bind_err : {A B : Type 0} (r : Result A StartError) (d : StartError) (f : A → Result B StartError) → r ≡ Err d → (r >>= f) ≡ Err d
 bind_err r d f e = ap (λ (q : Result _ StartError). q >>= f) e
 
-not_true : (b : Bool) → (b ≡ true → ⊥) → b ≡ false
+pub not_true : (b : Bool) → (b ≡ true → ⊥) → b ≡ false
 not_true true h = absurd (h refl)
 not_true false h = refl
 
 pub bind_at : {A B : Type 0} (r : Result A StartError) (x : A) (f : A → Result B StartError) → r ≡ Ok x → (r >>= f) ≡ f x
 bind_at r x f e = ap (λ (q : Result _ StartError). q >>= f) e
 
-refused_ok : {A : Type 0} (b : Bool) (d : StartError) (r : Result A StartError) (y : A) → cond b (Err d) r ≡ Ok y → (b ≡ false) × (r ≡ Ok y)
+pub refused_ok : {A : Type 0} (b : Bool) (d : StartError) (r : Result A StartError) (y : A) → cond b (Err d) r ≡ Ok y → (b ≡ false) × (r ≡ Ok y)
 refused_ok true d r y e = absurd cc
 refused_ok false d r y e = (refl, e)
 
-asked_ok : {A : Type 0} (b : Bool) (r : Result A StartError) (d : StartError) (y : A) → cond b r (Err d) ≡ Ok y → (b ≡ true) × (r ≡ Ok y)
+pub asked_ok : {A : Type 0} (b : Bool) (r : Result A StartError) (d : StartError) (y : A) → cond b r (Err d) ≡ Ok y → (b ≡ true) × (r ≡ Ok y)
 asked_ok true r d y e = (refl, e)
 asked_ok false r d y e = absurd cc
 

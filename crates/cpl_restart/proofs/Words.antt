@@ -59,7 +59,7 @@ unfolding number_bytes
 count_back n rest small = big_number-reads_back 8 n rest small
 
 -- what is read keeps to 64 bits
-number_fits : (bytes : List ℕ) → IsBytes bytes → FitsSigned w64 (number_in bytes)
+pub number_fits : (bytes : List ℕ) → IsBytes bytes → FitsSigned w64 (number_in bytes)
 unfolding number_in
 number_fits bytes fits = sfits_to_z {w = w64} {n = big_number 8 bytes} (record { fits = big_from-lt 0 8 bytes fits })
 

@@ -2,7 +2,7 @@
 use Rattle.std.specs.Prelude.{◌≡◌, ℕ, List, ◌++◌, codes, length, Result, Ok, All}
 use Rattle.std.specs.Int.{w64}
 use Rattle.std.specs.Int.RustNames.{FitsSigned}
-use Rattle.cpl_restart.specs.Numbers.{section_bytes, IsAmount}
+use Rattle.cpl_restart.specs.Numbers.{section_bytes, IsStored}
 use Rattle.cpl_fixed.specs.Results.{◌>>=◌}
 use Rattle.cpl_restart.specs.Sections.{after_mark, section_at, nothing_after, no_negative}
 pub use Rattle.cpl_restart.specs.Sections.{Reads}
@@ -21,8 +21,8 @@ air_bytes air = air_mark ++ section_bytes air.heat ++ section_bytes air.vapour
 pub record IsAir (cells : ℕ) (air : Air) : Type 0 where
   pub heat_length : length air.heat ≡ cells
   pub vapour_length : length air.vapour ≡ cells
-  pub heat : All IsAmount air.heat
-  pub vapour : All IsAmount air.vapour
+  pub heat : All IsStored air.heat
+  pub vapour : All IsStored air.vapour
 
 -- as many numbers as cells, each within 64 bits with a sign: what the sections of a file can hold
 pub record HasSections (cells : ℕ) (air : Air) : Type 0 where

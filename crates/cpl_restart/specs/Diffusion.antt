@@ -1,6 +1,7 @@
 -- The diffusion of the air: a step over all sides at once.
-use Rattle.std.specs.Prelude.{◌≡◌, ℕ, zero, suc, List, length, map, ℤ, pos, ◌+ℤ◌, ◌-ℤ◌, ◌*ℤ◌, ◌<ℤ◌, ◌≤ℤ◌, Option, Some, None, slice_index_or, All}
+use Rattle.std.specs.Prelude.{◌≡◌, ℕ, zero, suc, List, length, map, ℤ, pos, ◌+ℤ◌, ◌-ℤ◌, ◌≤ℤ◌, Option, Some, None, All}
 use Rattle.std.specs.List.{range_with_len}
+pub use Rattle.cpl_fixed.specs.Amounts.{at}
 pub use Rattle.cpl_fixed.specs.Flows.{IsAirArea, flow}
 pub use Rattle.cpl_fixed.specs.Totals.{total_of}
 use Rattle.cpl_fixed.specs.declared.limits.TheConstants.{MOST_TOTAL}
@@ -16,10 +17,6 @@ use Rattle.cpl_restart.specs.declared.air.Air.{Air}
 -- how many cells a mesh has
 abbrev pub cell_count : Mesh → ℕ
 cell_count mesh = cells_of mesh.mosaic.tiles
-
--- the amount or area of a cell, by its number
-abbrev pub at : List ℤ → ℕ → ℤ
-at xs n = slice_index_or xs n (pos 0)
 
 -- the number of the cell that has this side
 abbrev pub cell_number : Mesh → CellSide → ℕ

@@ -2,3 +2,17 @@ pub mod Numbers
 pub mod Sections
 pub mod AirBytes
 pub mod Diffusion
+pub mod States
+pub mod Lawful
+pub mod RestartBytes
+pub mod Counts
+pub mod Elements
+pub mod FastStep
+pub mod Stocks
+pub mod Budget
+pub mod FastLaws
+pub mod Slow
+pub mod Transport
+pub mod Cut
+pub mod CouplingStep
+pub mod SlowLaws

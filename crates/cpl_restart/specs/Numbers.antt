@@ -28,6 +28,6 @@ abbrev pub is_negative : ℤ → Bool
 is_negative (pos n) = false
 is_negative (negsuc n) = true
 
--- an amount: not negative, and within 64 bits with a sign
-abbrev pub IsAmount : ℤ → Type 0
-IsAmount x = (pos 0 ≤ℤ x) × (x <ℤ pos (2 ^ 63))
+-- a number that a state holds: not negative, and within 64 bits with a sign
+abbrev pub IsStored : ℤ → Type 0
+IsStored x = (pos 0 ≤ℤ x) × (x <ℤ pos (2 ^ 63))

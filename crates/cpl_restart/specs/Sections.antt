@@ -1,12 +1,13 @@
 -- Reading a file of numbers from its front, with the first fault that is met: a mark, sections, and no bytes after them.
-use Rattle.std.specs.Prelude.{ℕ, ◌*◌, ◌==◌, nat_lt, List, [], ◌∷◌, length, take, drop, Bool, true, false, Result, Ok, Err, Option, Some, None, if◌then◌else◌, ℤ}
+use Rattle.std.specs.Prelude.{ℕ, ◌*◌, ◌%◌, ◌^◌, ◌==◌, nat_lt, sum, map, List, [], ◌∷◌, length, take, drop, Bool, true, false, Result, Ok, Err, Option, Some, None, if◌then◌else◌, ℤ}
+use Rattle.std.specs.Int.{cast_unsigned, w64}
 use Rattle.std.specs.List.{position}
 use Rattle.std.specs.Str.{bytes_eq}
 use Rattle.byteorder.specs.Endian.{big_number}
 use Rattle.cpl_fixed.specs.Results.{Gives}
 use Rattle.cpl_restart.specs.Numbers.{numbers_in, is_negative}
 use Rattle.cpl_restart.specs.declared.start_error.StartError.{StartError}
-use Rattle.cpl_restart.specs.declared.start_error.StartError.TheVariants.{Short, Magic, Shape, Trailing, Negative, Memory}
+use Rattle.cpl_restart.specs.declared.start_error.StartError.TheVariants.{Short, Magic, Shape, Sum, Trailing, Negative, Memory}
 
 -- the bytes after the mark, which is eight bytes long
 abbrev pub after_mark : List ℕ → List ℕ → Result (List ℕ) StartError
@@ -35,6 +36,16 @@ no_negative_at section (Some index) = Err (Negative section index)
 
 abbrev pub no_negative : ℕ → List ℤ → Result (Unit {0}) StartError
 no_negative section xs = no_negative_at section (position is_negative xs)
+
+-- the sum of numbers of 64 bits, taken without a sign, which wraps
+abbrev pub wrapped_sum : List ℤ → ℕ
+wrapped_sum xs = sum (map (cast_unsigned w64) xs) % 2 ^ 64
+
+-- the bytes after the sum of a section, where that sum was found
+abbrev pub after_sum : (section found : ℕ) → List ℕ → Result (List ℕ) StartError
+after_sum section found bytes =
+    if nat_lt (length bytes) 8 then Err Short
+    else (if big_number 8 bytes == found then Ok (drop 8 bytes) else Err (Sum section (big_number 8 bytes) found))
 
 -- out of memory may come in place of any answer
 abbrev pub is_memory : StartError → Bool

@@ -1,8 +1,8 @@
 // The parts that files of numbers are made of: a mark, numbers of eight bytes, and sections, which are a count and that
 // many numbers. Readers take a part from the front of the bytes, and return it with the bytes behind it.
-ghost use Rattle.std.specs.Prelude.{◌≡◌, ◌≤◌, ◌^◌, ◌++◌, length, IfOk, OnOk};
+ghost use Rattle.std.specs.Prelude.{◌≡◌, ◌≤◌, ◌^◌, ◌∷◌, ◌++◌, length, IfOk, OnOk};
 ghost use Rattle.cpl_restart.specs.Numbers.{number_bytes, section_bytes};
-ghost use Rattle.cpl_restart.specs.Sections.{Reads, after_mark, section_numbers, section_at, nothing_after, no_negative};
+ghost use Rattle.cpl_restart.specs.Sections.{Reads, after_mark, section_numbers, section_at, wrapped_sum, after_sum, nothing_after, no_negative};
 
 use crate::start_error::StartError;
 use byteorder::{BigEndian, ByteOrder};
@@ -10,7 +10,7 @@ use cpl_fixed::List;
 use std::alloc::{AllocError, Global};
 
 /// How many bytes a mark, a count or a number has.
-const WORD: usize = 8;
+pub const WORD: usize = 8;
 
 /// The bytes behind the mark: `Short` where fewer than eight bytes are there, else `Magic` where they are others.
 pub fn read_mark<'a>(mark: &[u8; WORD], bytes: &'a [u8]) -> Result<&'a [u8], StartError>
@@ -60,6 +60,32 @@ pub fn read_section(
         return Err(StartError::Shape(section));
     }
     read_numbers(alloc, count, rest)
+}
+
+/// The sum of numbers, taken without a sign, which wraps: of one, and of others behind it.
+pub fn wrapped_sum(first: i64, others: &[i64]) -> u64
+    ensures { result ≡ wrapped_sum (first ∷ others.now) }
+{
+    let mut sum = first.cast_unsigned();
+    for number in others {
+        sum = sum.wrapping_add(number.cast_unsigned());
+    }
+    sum
+}
+
+/// The bytes behind the sum of a section, where that sum was found: `Short` where it isn't all there, `Sum` where it is another.
+pub fn read_sum(section: u32, found: u64, bytes: &[u8]) -> Result<&[u8], StartError>
+    ensures { Reads (λ rest. rest.now) result (after_sum section found bytes.now) }
+{
+    if bytes.len() < WORD {
+        return Err(StartError::Short);
+    }
+    let (front, rest) = bytes.split_at(WORD);
+    let stated = BigEndian::read_u64(front);
+    if stated != found {
+        return Err(StartError::Sum(section, stated, found));
+    }
+    Ok(rest)
 }
 
 /// `Trailing` where bytes are left.

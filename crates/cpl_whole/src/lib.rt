@@ -1,8 +1,6 @@
 //! The undivided run: whole lists, no pieces, one thread.
 #![tactic(auto)]
 
-mod diffuse;
-mod faces;
 mod solo;
 
 pub use solo::run_solo;

@@ -2,10 +2,9 @@
 ghost use Rattle.std.specs.Prelude.{◌≡◌, IfOk};
 ghost use Rattle.cpl_restart.specs.Diffusion.{IsAirMesh, AreAmounts, cell_count, air_after, total_of};
 
-use crate::diffuse::{Ways, diffuse, make_room};
-use crate::faces::all_faces;
+use cpl_diffusion::{diffuse, make_room, make_ways};
 use cpl_fixed::List;
-use cpl_mosaic::{Mesh, Side};
+use cpl_mosaic::Mesh;
 use cpl_restart::Air;
 use std::alloc::{AllocError, Global};
 
@@ -30,11 +29,8 @@ pub fn run_solo(alloc: Global, mesh: &Mesh, air: Air, n: u32) -> Result<Air, All
     if n == 0 {
         return Ok(air);
     }
-    let ways = Ways {
-        east: all_faces(alloc, mesh, Side::E, Side::W)?,
-        north: all_faces(alloc, mesh, Side::N, Side::S)?,
-    };
-    let mut room = make_room(alloc, ways.east.len())?;
+    let ways = make_ways(alloc, mesh)?;
+    let mut room = make_room(alloc, mesh.mosaic.cells() as usize)?;
     let Air { heat, vapour } = air;
     let mut heat = heat.into_vec();
     let mut vapour = vapour.into_vec();

@@ -2,9 +2,7 @@ use Rattle.std.proofs.Common.{◌≡◌, ◌∙◌, sym, subst, ap, ℕ, ◌+◌
 use Rattle.cpl_restart.specs.Diffusion.{AreAmounts, cell_count, diffused, diffused_by, total_of}
 use Rattle.cpl_mosaic.specs.declared.mosaic.Mesh.{Mesh}
 use Rattle.std.specs.Prelude.{ℤ, List}
-use Rattle.cpl_mosaic.specs.declared.parts.Side.TheVariants.{W, E}
-use Rattle.cpl_whole.specs.Steps.{IsRoom}
-use Rattle.cpl_whole.proofs.Across.{length_faces}
+use Rattle.cpl_diffusion.specs.Steps.{IsRoom}
 use Rattle.cpl_whole.proofs.solo.run_solo.Goals as goal
 
 -- one step more
@@ -19,9 +17,7 @@ loop-step-init c = record {
   vapour_range = subst (AreAmounts (cell_count c.args.mesh.now)) (sym c.into_vec-vapour.ensures) c.requires.vapour;
   heat_total = ap total_of c.into_vec-heat.ensures;
   vapour_total = ap total_of c.into_vec-vapour.ensures;
-  room =
-      let cells : c.len.result ≡ cell_count c.args.mesh.now = omega (arith, c.len.ensures, length_faces c.args.mesh.now E W c.in_ok-all_faces.field-0.items c.in_ok-all_faces.ensures) in
-      subst (λ n. IsRoom n c.in_ok-room.room) cells c.in_ok-room.ensures;
+  room = subst (λ n. IsRoom n c.in_ok-room.room) c.cells.ensures.count c.in_ok-room.ensures;
 }
 
 pub loop-step-preserved : goal.loop-step-preserved

@@ -1,6 +1,6 @@
 use Rattle.std.proofs.Common.{◌≡◌}
 use Rattle.cpl_restart.specs.Diffusion.{AreAmounts, cell_count, diffused_by, total_of}
-use Rattle.cpl_whole.specs.Steps.{IsRoom}
+use Rattle.cpl_diffusion.specs.Steps.{IsRoom}
 use Rattle.cpl_whole.proofs.solo.run_solo.Given as goal
 
 abbrev pub invariant-loop-step : goal.invariant-loop-step

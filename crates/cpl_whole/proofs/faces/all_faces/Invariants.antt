@@ -1,6 +1,0 @@
-use Rattle.std.proofs.Common.{◌≡◌}
-use Rattle.cpl_whole.specs.Across.{faces_to}
-use Rattle.cpl_whole.proofs.faces.all_faces.Given as goal
-
-abbrev pub invariant-loop-n : goal.invariant-loop-n
-invariant-loop-n l = l.faces.items ≡ faces_to l.mesh l.ahead l.back l.n
