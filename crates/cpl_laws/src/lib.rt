@@ -1,0 +1,6 @@
+//! Laws of the coupled step: what its definitions keep, whoever computes them.
+#![tactic(auto)]
+
+mod laws;
+
+pub use laws::{elements_law, fast_law, once_law, slow_law};
