@@ -1,0 +1,12 @@
+pub mod Rows
+pub mod Sides
+pub mod Flows
+pub mod Pairs
+pub mod Kept
+pub mod Steps
+pub mod Writes
+pub mod Outs
+pub mod Looked
+pub mod Ready
+pub mod Tops
+pub mod Entered

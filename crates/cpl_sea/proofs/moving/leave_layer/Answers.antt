@@ -1,0 +1,19 @@
+use Rattle.std.proofs.Common.{◌≡◌, ◌∙◌, ap, ◌+◌, ◌<◌, arith, length}
+use Rattle.cpl_transport.specs.Salts.{nothing, without}
+use Rattle.cpl_sea.specs.Passes.{cell_faces_at, out_of, salty_at}
+use Rattle.cpl_sea.proofs.Writes.{written, written_before}
+use Rattle.cpl_sea.proofs.moving.leave_layer.Goals as goal
+
+pub loop-n-preserved : goal.loop-n-preserved
+loop-n-preserved c =
+    let n = c.loop-n.n in
+    let begin = c.args.begin in
+    let rest = c.loop-n.rest in
+    let cells = c.args.cells.now in
+    let within : begin + n < length rest = omega arith in
+    let value : c.left.result ≡ without (salty_at cells (begin + n)) (out_of (salty_at c.args.flows.now) (cell_faces_at c.args.faces.now n)) =
+    c.left.ensures ∙ ap (without (salty_at cells (begin + n))) c.moved_out-out.ensures.value in
+    record {
+      left = written nothing rest begin n c.left.result within (λ k. without (salty_at cells (begin + k)) (out_of (salty_at c.args.flows.now) (cell_faces_at c.args.faces.now k))) value c.loop-n.invariant.left;
+      before = written_before nothing rest begin n c.left.result within c.args.rest.now c.loop-n.invariant.before;
+    }

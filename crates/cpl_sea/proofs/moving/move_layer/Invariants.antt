@@ -1,0 +1,17 @@
+use Rattle.std.proofs.Common.{◌≡◌, ℕ, ◌+◌, ◌<◌, ◌≤◌}
+use Rattle.std.specs.Prelude.{All}
+use Rattle.cpl_fixed.specs.Amounts.{at}
+use Rattle.cpl_transport.specs.Heights.{IsFaceNumber}
+use Rattle.cpl_transport.specs.Salts.{AreSmall}
+use Rattle.cpl_sea.specs.Passes.{flow_in, link_at, number_after, salty_at}
+use Rattle.cpl_sea.proofs.moving.move_layer.Given as goal
+
+abbrev pub invariant-loop-f : goal.invariant-loop-f
+invariant-loop-f l = record {
+  numbers : (k : ℕ) → k < l.f → at l.faces (l.first + k) ≡ number_after l.slope l.heights (link_at l.links k) (at l.initial.faces (l.first + k));
+  rest : (place : ℕ) → l.first + l.f ≤ place → at l.faces place ≡ at l.initial.faces place;
+  before : (place : ℕ) → place < l.first → at l.faces place ≡ at l.initial.faces place;
+  range : All IsFaceNumber l.faces;
+  flows : (k : ℕ) → k < l.f → salty_at l.flows k ≡ flow_in l.cells l.begin (link_at l.links k) (at l.faces (l.first + k));
+  small : (k : ℕ) → k < l.f → AreSmall (salty_at l.flows k);
+}

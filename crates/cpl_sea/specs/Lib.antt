@@ -1,0 +1,5 @@
+pub mod Links
+pub mod Lists
+pub mod Passes
+pub mod Rooms
+pub mod Seas

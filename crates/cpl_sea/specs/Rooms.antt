@@ -1,0 +1,41 @@
+-- Room for the steps of an ocean.
+use Rattle.std.specs.Prelude.{◌≡◌, ℕ, ◌*◌, ◌≤◌, length}
+use Rattle.cpl_fixed.specs.Ranges.{IsFrom}
+use Rattle.cpl_fixed.specs.declared.limits.TheConstants.{MOST_CELLS, MOST_LAYERS}
+use Rattle.cpl_mosaic.specs.declared.mosaic.Mesh.{Mesh}
+use Rattle.cpl_restart.specs.Diffusion.{cell_count}
+use Rattle.cpl_restart.specs.declared.whole.Whole.{Whole}
+use Rattle.cpl_restart.specs.Transport.{Sea, face_count}
+use Rattle.cpl_sea.specs.Links.{all_cell_faces, links_of}
+use Rattle.cpl_sea.specs.Seas.{IsOcean}
+use Rattle.cpl_sea.specs.declared.room.SeaRoom.{SeaRoom}
+
+-- the ocean that a step works on
+abbrev pub sea_in : SeaRoom → Sea
+sea_in room = record { water = room.water.items; heat = room.heat.items; salt = room.salt.items; faces = room.faces.items }
+
+-- room for the ocean of this mesh, with so many layers
+pub record IsSeaRoom (mesh : Mesh) (layers : ℕ) (room : SeaRoom) : Type 0 where
+  pub ocean : IsOcean mesh
+  pub few : cell_count mesh ≤ MOST_CELLS
+  pub some : IsFrom 1 MOST_LAYERS layers
+  pub links : room.links.items ≡ links_of mesh
+  pub cell_faces : room.cell_faces.items ≡ all_cell_faces mesh
+  pub heights : length room.heights.items ≡ cell_count mesh
+  pub flows : length room.flows.items ≡ face_count mesh
+  pub cells : length room.cells.items ≡ layers * cell_count mesh
+  pub rest : length room.rest.items ≡ layers * cell_count mesh
+
+-- a state with another ocean
+abbrev pub with_sea : Whole → Sea → Whole
+with_sea whole sea = record whole { water = sea.water; heat = sea.heat; salt = sea.salt; faces = sea.faces }
+
+-- two rooms that differ in the ocean they work on alone
+pub record HasSameRoom (old new : SeaRoom) : Type 0 where
+  pub links : new.links ≡ old.links
+  pub cell_faces : new.cell_faces ≡ old.cell_faces
+  pub heights : new.heights ≡ old.heights
+  pub flows : new.flows ≡ old.flows
+  pub cells : new.cells ≡ old.cells
+  pub rest : new.rest ≡ old.rest
+  pub flights : new.flights ≡ old.flights

@@ -1,0 +1,233 @@
+// Columns: their heights, and what their layers exchange.
+ghost use Rattle.std.specs.Prelude.{◌≡◌, ◌+◌, ◌*◌, ◌<◌, ◌≤◌, ℕ, length, All};
+ghost use Rattle.cpl_fixed.specs.Amounts.{IsAmount, at};
+ghost use Rattle.cpl_ice.specs.declared.parts.Salty.{Salty};
+ghost use Rattle.cpl_transport.specs.Heights.{IsHeight};
+ghost use Rattle.cpl_transport.specs.Mixing.{sum_of};
+ghost use Rattle.cpl_transport.specs.Salts.{AreSmall, IsSalty, joined, without};
+ghost use Rattle.cpl_restart.specs.Diffusion.{AreAmounts, cell_count};
+ghost use Rattle.cpl_xgrid.specs.Lists.{IsArea, IsMesh};
+ghost use Rattle.cpl_sea.specs.Passes.{AreColumns, column_at, exchanged_cells, height_over, mixed_cell, passed_cell, salty_at};
+
+use crate::moving::NOTHING;
+use cpl_ice::Salty;
+use cpl_mosaic::Mesh;
+use cpl_transport::{exchanged, height};
+
+// The cells of all layers, from the three lists of a state.
+pub(crate) fn load(water: &[i64], heat: &[i64], salt: &[i64], cells: &mut [Salty])
+    requires water { All IsAmount water.now }
+    requires heat { All IsAmount heat.now }
+    requires salt { All IsAmount salt.now }
+    requires cells { length cells.old ≡ length water.now }
+    requires heat_count { length heat.now ≡ length water.now }
+    requires salt_count { length salt.now ≡ length water.now }
+    ensures each { (place : ℕ) → place < length water.now
+        → ◌≡◌ {A = Salty} (salty_at cells.new place) (record { water = at water.now place; heat = at heat.now place; salt = at salt.now place }) }
+    ensures salty { All IsSalty cells.new }
+{
+    for place in 0..cells.len() {
+        cells[place] = Salty {
+            water: water[place],
+            heat: heat[place],
+            salt: salt[place],
+        };
+    }
+}
+
+// The water of a column.
+fn column_water(water: &[i64], layers: usize, count: usize, n: usize) -> i64
+    requires columns { AreColumns layers count (length water.now) }
+    requires water { AreAmounts (layers * count) water.now }
+    requires within { n < count }
+    ensures value { result ≡ sum_of layers (λ layer. at water.now (layer * count + n)) }
+    ensures amount { IsAmount result }
+{
+    let mut sum = 0;
+    for layer in 0..layers {
+        sum += water[layer * count + n];
+    }
+    sum
+}
+
+// The height of a column over its area, 0 where it has none.
+fn height_over(area: i64, water: &[i64], layers: usize, count: usize, n: usize) -> i64
+    requires area { IsArea area }
+    requires columns { AreColumns layers count (length water.now) }
+    requires water { AreAmounts (layers * count) water.now }
+    requires within { n < count }
+    ensures value { result ≡ height_over area layers count water.now n }
+    ensures range { IsHeight result }
+{
+    if area == 0 {
+        0
+    } else {
+        height(column_water(water, layers, count, n), area)
+    }
+}
+
+// The heights of all columns.
+pub(crate) fn raise(mesh: &Mesh, water: &[i64], layers: usize, heights: &mut [i64])
+    requires mesh { IsMesh mesh.now }
+    requires columns { AreColumns layers (cell_count mesh.now) (length water.now) }
+    requires water { AreAmounts (layers * cell_count mesh.now) water.now }
+    requires heights { length heights.old ≡ cell_count mesh.now }
+    ensures heights { (n : ℕ) → n < cell_count mesh.now
+        → at heights.new n ≡ height_over (at mesh.now.area n) layers (cell_count mesh.now) water.now n }
+    ensures range { All IsHeight heights.new }
+{
+    let count = heights.len();
+    let area = mesh.area.as_slice();
+    for n in 0..count {
+        heights[n] = height_over(area[n], water, layers, count, n);
+    }
+}
+
+// What passes from a cell to the one below it.
+#[inline]
+fn exchange(mix: u32, upper: Salty, lower: Salty) -> Salty
+    requires mix { (2 ≤ mix) × (mix ≤ 40) }
+    requires upper { IsSalty upper }
+    requires lower { IsSalty lower }
+    ensures value { result ≡ exchanged_cells mix upper lower }
+    ensures small { AreSmall result }
+{
+    Salty {
+        water: exchanged(mix, upper.water, lower.water),
+        heat: exchanged(mix, upper.heat, lower.heat),
+        salt: exchanged(mix, upper.salt, lower.salt),
+    }
+}
+
+// What passes down out of a cell: nothing out of the last layer.
+#[inline]
+fn passed(mix: u32, layers: usize, cells: &[Salty], count: usize, layer: usize, n: usize) -> Salty
+    requires mix { (2 ≤ mix) × (mix ≤ 40) }
+    requires columns { AreColumns layers count (length cells.now) }
+    requires cells { All IsSalty cells.now }
+    requires layer { layer < layers }
+    requires within { n < count }
+    ensures value { result ≡ passed_cell mix layers (column_at count cells.now n) layer }
+    ensures small { AreSmall result }
+{
+    let place = layer * count + n;
+    if layer + 1 < layers {
+        exchange(mix, cells[place], cells[place + count])
+    } else {
+        NOTHING
+    }
+}
+
+// A layer without what passes down out of it.
+#[inline]
+fn after_passing(here: Salty, down: Salty) -> Salty
+    requires here { IsSalty here }
+    requires down { AreSmall down }
+    ensures { result ≡ without here down }
+{
+    Salty {
+        water: here.water - down.water,
+        heat: here.heat - down.heat,
+        salt: here.salt - down.salt,
+    }
+}
+
+// The same with what comes from above.
+#[inline]
+fn after_exchange(here: Salty, from_above: Salty, down: Salty) -> Salty
+    requires here { IsSalty here }
+    requires from_above { AreSmall from_above }
+    requires down { AreSmall down }
+    ensures { result ≡ without (joined here from_above) down }
+{
+    Salty {
+        water: here.water + from_above.water - down.water,
+        heat: here.heat + from_above.heat - down.heat,
+        salt: here.salt + from_above.salt - down.salt,
+    }
+}
+
+// A cell after the layers of its column have given to their neighbours, all at once.
+#[inline]
+fn mixed_cell(
+    mix: u32,
+    layers: usize,
+    cells: &[Salty],
+    count: usize,
+    layer: usize,
+    n: usize,
+) -> Salty
+    requires mix { (2 ≤ mix) × (mix ≤ 40) }
+    requires columns { AreColumns layers count (length cells.now) }
+    requires cells { All IsSalty cells.now }
+    requires layer { layer < layers }
+    requires within { n < count }
+    ensures { result ≡ mixed_cell mix layers (column_at count cells.now n) layer }
+{
+    let here = cells[layer * count + n];
+    let down = passed(mix, layers, cells, count, layer, n);
+    if layer == 0 {
+        after_passing(here, down)
+    } else {
+        let from_above = passed(mix, layers, cells, count, layer - 1, n);
+        after_exchange(here, from_above, down)
+    }
+}
+
+// Writes what the vertical exchange makes of a layer into the three lists of a state.
+pub(crate) fn mix_layer(
+    mix: u32,
+    layers: usize,
+    cells: &[Salty],
+    count: usize,
+    layer: usize,
+    water: &mut [i64],
+    heat: &mut [i64],
+    salt: &mut [i64],
+)
+    requires mix { (2 ≤ mix) × (mix ≤ 40) }
+    requires columns { AreColumns layers count (length cells.now) }
+    requires cells { All IsSalty cells.now }
+    requires layer { layer < layers }
+    requires water { length water.old ≡ length cells.now }
+    requires heat { length heat.old ≡ length cells.now }
+    requires salt { length salt.old ≡ length cells.now }
+    ensures mixed { (n : ℕ) → n < count
+        → ◌≡◌ {A = Salty} (record { water = at water.new (layer * count + n); heat = at heat.new (layer * count + n); salt = at salt.new (layer * count + n) })
+        (mixed_cell mix layers (column_at count cells.now n) layer) }
+    ensures before { (place : ℕ) → place < layer * count
+        → (at water.new place ≡ at water.old place) × (at heat.new place ≡ at heat.old place) × (at salt.new place ≡ at salt.old place) }
+{
+    let begin = layer * count;
+    for n in 0..count {
+        let cell = mixed_cell(mix, layers, cells, count, layer, n);
+        water[begin + n] = cell.water;
+        heat[begin + n] = cell.heat;
+        salt[begin + n] = cell.salt;
+    }
+}
+
+// Writes what the vertical exchange makes of all layers into the three lists of a state.
+pub(crate) fn mix(
+    mix: u32,
+    layers: usize,
+    cells: &[Salty],
+    count: usize,
+    water: &mut [i64],
+    heat: &mut [i64],
+    salt: &mut [i64],
+)
+    requires mix { (2 ≤ mix) × (mix ≤ 40) }
+    requires columns { AreColumns layers count (length cells.now) }
+    requires cells { All IsSalty cells.now }
+    requires water { length water.old ≡ length cells.now }
+    requires heat { length heat.old ≡ length cells.now }
+    requires salt { length salt.old ≡ length cells.now }
+    ensures mixed { (layer n : ℕ) → layer < layers → n < count
+        → ◌≡◌ {A = Salty} (record { water = at water.new (layer * count + n); heat = at heat.new (layer * count + n); salt = at salt.new (layer * count + n) })
+        (mixed_cell mix layers (column_at count cells.now n) layer) }
+{
+    for layer in 0..layers {
+        mix_layer(mix, layers, cells, count, layer, water, heat, salt);
+    }
+}

@@ -1,0 +1,12 @@
+pub mod Writes
+pub mod Brought
+pub mod Weights
+pub mod Listed
+pub mod Bare
+pub mod Filled
+pub mod Same
+pub mod Turning
+pub mod Swapped
+pub mod Bringing
+pub mod Dried
+pub mod Whole

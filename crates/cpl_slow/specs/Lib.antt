@@ -1,0 +1,6 @@
+pub mod Blocks
+pub mod Land
+pub mod Drains
+pub mod Ice
+pub mod Rooms
+pub mod Steps

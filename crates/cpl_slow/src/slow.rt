@@ -1,0 +1,73 @@
+// The slow part of a coupling step.
+ghost use Rattle.std.specs.Prelude.{◌≡◌};
+ghost use Rattle.cpl_fixed.specs.Ranges.{AreRates};
+ghost use Rattle.cpl_xgrid.specs.Grids.{IsGrid};
+ghost use Rattle.cpl_laws.specs.Once.{IsNumbered};
+ghost use Rattle.cpl_restart.specs.Slow.{slow_after};
+ghost use Rattle.cpl_restart.specs.SlowLaws.{CanSlowAll, KeepsSlow};
+ghost use Rattle.cpl_slow.specs.Ice.{AllCanSlow};
+ghost use Rattle.cpl_slow.specs.Rooms.{IsSlowRoom};
+ghost use Rattle.cpl_slow.specs.Steps.{CanDrain, HasArrived, HasIce, with_dry_land, with_slow_ice};
+
+use crate::land::run_off;
+use crate::room::SlowRoom;
+use cpl_fixed::Rates;
+use cpl_restart::{Mid, Whole};
+use cpl_xgrid::Grid;
+
+// The land gives its runoff, which the outlets bring to the cells of the ocean's mosaic.
+fn drain_land(grid: &Grid, rates: &Rates, whole: &mut Whole, room: &mut SlowRoom)
+    requires grid { IsNumbered grid.now }
+    requires rates { AreRates rates.now }
+    requires can { CanDrain grid.now rates.now whole.old }
+    requires room { IsSlowRoom grid.now room.old }
+    ensures whole { whole.new ≡ with_dry_land grid.now rates.now whole.old }
+    ensures arrived { HasArrived grid.now rates.now whole.old room.new.arrived.items }
+    ensures room { IsSlowRoom grid.now room.new }
+{
+    room.land.swap(whole);
+    run_off(
+        grid.land.area.as_slice(),
+        rates,
+        &mut room.land.heat,
+        &mut room.land.water,
+        &mut room.runoffs,
+    );
+    room.land.swap(whole);
+    room.drains.bring(&room.runoffs, &mut room.arrived);
+}
+
+// The ice slows with the runoff that arrived, and what it gives back flies to the ocean.
+fn slow_ice(grid: &Grid, rates: &Rates, mid: &mut Mid, room: &mut SlowRoom)
+    requires grid { IsGrid grid.now }
+    requires rates { AreRates rates.now }
+    requires mid { HasIce grid.now mid.old }
+    requires can { AllCanSlow grid.now mid.old room.old.arrived.items }
+    requires room { IsSlowRoom grid.now room.old }
+    ensures value { mid.new ≡ with_slow_ice grid.now rates.now mid.old room.old.arrived.items }
+    ensures room { IsSlowRoom grid.now room.new }
+{
+    room.ice.swap(&mut mid.whole);
+    room.ice.slow(grid, rates, mid, &room.arrived);
+    room.ice.swap(&mut mid.whole);
+}
+
+/// The slow part of a coupling step: the water that the land can't hold runs off through its outlets, and the ice takes it, freezes,
+/// ridges and melts. What the ice gives back flies to the ocean. It takes no memory.
+///
+/// The state is lawful, nothing flies, and all its heat, water and salt are each at most 2^62 - 1. Skin and frazil are used up:
+/// their lists stay as they are, and hold nothing that counts any more.
+pub fn slow_step(grid: &Grid, rates: &Rates, mid: &mut Mid, room: &mut SlowRoom)
+    requires can { CanSlowAll grid.now rates.now mid.old }
+    requires room { IsSlowRoom grid.now room.old }
+    ensures value { mid.new ≡ record mid.old { whole = slow_after grid.now rates.now mid.old } }
+    ensures keeps { KeepsSlow grid.now rates.now mid.old }
+    ensures room { IsSlowRoom grid.now room.new }
+{
+    // The contracts of `cells` have the laws of numbers.
+    let _airs = grid.air.mosaic.cells();
+    let _lands = grid.land.mosaic.cells();
+    let _oceans = grid.ocean.mosaic.cells();
+    drain_land(grid, rates, &mut mid.whole, room);
+    slow_ice(grid, rates, mid, room);
+}
