@@ -1,4 +1,4 @@
--- What `solo` comes to, step by step.
+-- What commands come to, step by step.
 use Rattle.std.proofs.Common.{◌≡◌, ◌∙◌, sym, ap, ℕ, List, Option, Result, Ok}
 use Rattle.cpl_fixed.specs.declared.words.Quantity.TheVariants.{Heat, Water}
 use Rattle.cpl_mosaic.specs.declared.mosaic.Mesh.{Mesh}
@@ -8,14 +8,32 @@ use Rattle.cpl_restart.specs.AirBytes.{air_of}
 use Rattle.cpl_restart.specs.Diffusion.{cell_count, air_after}
 use Rattle.cpl_top.specs.declared.output.Reply.{Reply}
 use Rattle.cpl_top.specs.declared.pieces.Pieces.{Pieces}
-use Rattle.cpl_fixed.specs.Results.{◌>>=◌}
+use Rattle.cpl_fixed.specs.Results.{◌>>=◌, Fails}
 use Rattle.cpl_fixed.specs.Totals.{total_of}
-use Rattle.cpl_top.specs.Judging.{as_grid, as_start, budget}
+use Rattle.cpl_restart.specs.Sections.{is_memory}
+use Rattle.cpl_restart.specs.declared.start_error.StartError.{StartError}
+use Rattle.cpl_restart.specs.declared.start_error.StartError.TheVariants as start
+use Rattle.cpl_top.specs.Causes.{Refuses}
+use Rattle.cpl_top.specs.declared.status.Status.{Status}
+use Rattle.cpl_top.specs.Judging.{as_grid, as_start, start_status, budget}
 use Rattle.cpl_top.specs.Solo.{air_layout, solo_reply, solo_answer}
 
 -- a step that succeeds, and what comes after it
 pub goes_on : {A B E : Type 0} (r : Result A E) (f : A → Result B E) (x : A) (y : Result B E) → r ≡ Ok x → f x ≡ y → (r >>= f) ≡ y
 goes_on r f x y e h = ap (λ r. r >>= f) e ∙ h
+
+-- a start at fault, whatever would come after it. Out of memory is free
+pub start_refuses : {A B : Type 0} (fault : StartError) (r : Result A StartError) (f : A → Result B Status) → Fails is_memory fault r → Refuses (start_status fault) (as_start r >>= f)
+start_refuses start.Short r f e = ap (λ r. as_start r >>= f) e
+start_refuses start.Magic r f e = ap (λ r. as_start r >>= f) e
+start_refuses (start.Shape section) r f e = ap (λ r. as_start r >>= f) e
+start_refuses (start.Sum section stated found) r f e = ap (λ r. as_start r >>= f) e
+start_refuses start.Trailing r f e = ap (λ r. as_start r >>= f) e
+start_refuses (start.Negative section index) r f e = ap (λ r. as_start r >>= f) e
+start_refuses (start.Parts cell) r f e = ap (λ r. as_start r >>= f) e
+start_refuses (start.Dry section index) r f e = ap (λ r. as_start r >>= f) e
+start_refuses (start.Wall index) r f e = ap (λ r. as_start r >>= f) e
+start_refuses start.Memory r f e = tt
 
 module _ (out : List ℕ) (steps cells : ℕ) (pieces : Option Pieces) (grid start : List ℕ) (mesh : Mesh) (air last : Air) (reply : Reply) where
   pub judged_to :

@@ -5,7 +5,7 @@ use Rattle.cpl_fixed.specs.Totals.{total_of}
 use Rattle.cpl_fixed.specs.declared.limits.TheConstants.{MOST_TOTAL}
 use Rattle.cpl_mosaic.specs.declared.mosaic.Mesh.{Mesh}
 use Rattle.cpl_gridfile.specs.AirGrid.{IsAirGrid}
-use Rattle.cpl_restart.specs.Numbers.{IsAmount}
+use Rattle.cpl_restart.specs.Numbers.{IsStored}
 use Rattle.cpl_restart.specs.Diffusion.{IsAirMesh, IsAirArea, AreAmounts}
 
 -- an air grid that was read is a mesh for the run
@@ -13,5 +13,5 @@ pub air_mesh : (mesh : Mesh) → IsAirGrid mesh → All IsAirArea mesh.area → 
 air_mesh mesh grid areas = record { areas = grid.limits.count; each = areas }
 
 -- amounts that were read, within the budget, are amounts for the run
-pub amounts : (cells : ℕ) (xs : List ℤ) → length xs ≡ cells → All IsAmount xs → total_of xs ≤ℤ pos MOST_TOTAL → AreAmounts cells xs
+pub amounts : (cells : ℕ) (xs : List ℤ) → length xs ≡ cells → All IsStored xs → total_of xs ≤ℤ pos MOST_TOTAL → AreAmounts cells xs
 amounts cells xs count each total = record { count = count; each = λ i d lt. (each i d lt).0; total = total }

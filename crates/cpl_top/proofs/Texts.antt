@@ -2,7 +2,7 @@
 use Rattle.std.proofs.Common.{◌≡◌, List, [], ◌∷◌, length, refl, ap, arith, ◌&&◌, Option, None, ℕ, String, string_bytes}
 use Rattle.std.specs.List.{list_all}
 use Rattle.std.specs.declared.alloc.Global.{Global}
-use Rattle.cpl_top.specs.Words.{four_or_six_words, one_word, is_argument, texts}
+use Rattle.cpl_top.specs.Words.{four_or_six_words, three_words, one_word, is_argument, texts}
 
 pub each_text : (words : List (String Global)) → list_all (λ word. is_argument (string_bytes word)) words ≡ list_all is_argument (texts words)
 each_text [] = refl
@@ -13,6 +13,13 @@ pub not_one : {A : Type 0} (f : List ℕ → Option A) (words : List (String Glo
 not_one f [] ne = refl
 not_one f (a ∷ []) ne = absurd (ne (omega arith))
 not_one f (a ∷ b ∷ words) ne = refl
+
+pub not_three : {A : Type 0} (f : List ℕ → List ℕ → List ℕ → Option A) (words : List (String Global)) → (length words ≡ 3 → ⊥) → three_words f (texts words) ≡ None
+not_three f [] ne = refl
+not_three f (a ∷ []) ne = refl
+not_three f (a ∷ b ∷ []) ne = refl
+not_three f (a ∷ b ∷ c ∷ []) ne = absurd (ne (omega arith))
+not_three f (a ∷ b ∷ c ∷ d ∷ words) ne = refl
 
 pub not_four_or_six : {A : Type 0} (four : List ℕ → List ℕ → List ℕ → List ℕ → Option A) (six : List ℕ → List ℕ → List ℕ → List ℕ → List ℕ → List ℕ → Option A) (words : List (String Global))
     → (length words ≡ 4 → ⊥) → (length words ≡ 6 → ⊥) → four_or_six_words four six (texts words) ≡ None

@@ -7,6 +7,7 @@ pub mod Inputs
 pub mod Pieces
 pub mod Judging
 pub mod Check
+pub mod Migrate
 pub mod Solo
 pub mod Commands
 pub mod Failures

@@ -19,6 +19,10 @@ abbrev pub one_word : {A : Type 0} → (List ℕ → Option A) → List (List �
 one_word f (a ∷ []) = f a
 one_word f words = None
 
+abbrev pub three_words : {A : Type 0} → (List ℕ → List ℕ → List ℕ → Option A) → List (List ℕ) → Option A
+three_words f (a ∷ b ∷ c ∷ []) = f a b c
+three_words f words = None
+
 abbrev pub four_or_six_words : {A : Type 0} → (List ℕ → List ℕ → List ℕ → List ℕ → Option A) → (List ℕ → List ℕ → List ℕ → List ℕ → List ℕ → List ℕ → Option A) → List (List ℕ) → Option A
 four_or_six_words four six (a ∷ b ∷ c ∷ d ∷ []) = four a b c d
 four_or_six_words four six (a ∷ b ∷ c ∷ d ∷ e ∷ f ∷ []) = six a b c d e f

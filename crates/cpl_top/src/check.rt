@@ -11,7 +11,7 @@ ghost use Rattle.cpl_top.specs.Words.{texts};
 use crate::files::read_file;
 use crate::{Reply, Status, Which};
 use cpl_fixed::List;
-use cpl_gridfile::{read_air, read_grid};
+use cpl_gridfile::{read_air, take_grid};
 use cpl_io::Shelf;
 use cpl_mosaic::Mesh;
 use cpl_xgrid::{Grid, Surface};
@@ -81,15 +81,15 @@ fn count_coupled(grid: &Grid) -> Counts
     }
 }
 
-// What the grid has that bytes spell.
-fn count(alloc: Global, bytes: &[u8]) -> Result<Counts, Status>
-    ensures { Answers (λ counts. counts) result (counts_of bytes.now) }
+// What the grid has that bytes spell. They are freed as soon as they are read.
+fn count(alloc: Global, bytes: Vec<u8>) -> Result<Counts, Status>
+    ensures { Answers (λ counts. counts) result (counts_of bytes.items) }
 {
     if bytes.starts_with(AIR_HEAD) {
-        let mesh = read_air(alloc, bytes)?;
+        let mesh = read_air(alloc, &bytes)?;
         Ok(count_air(&mesh))
     } else {
-        let grid = read_grid(alloc, bytes)?;
+        let grid = take_grid(alloc, bytes)?;
         Ok(count_coupled(&grid))
     }
 }
@@ -120,13 +120,12 @@ fn check_reply(alloc: Global, counts: &Counts) -> Result<Reply, AllocError>
     })
 }
 
-// What the bytes of the file come to. They are freed as soon as the grid is counted.
+// What the bytes of the file come to.
 fn run_check_command(alloc: Global, grid: Vec<u8>) -> Result<Reply, Status>
     ensures answer { Answers (λ reply. reply) result (check_answer grid.items) }
     ensures apart { IfOk result (λ reply. AreApart reply.outputs) }
 {
-    let counts = count(alloc, &grid)?;
-    drop(grid);
+    let counts = count(alloc, grid)?;
     Ok(check_reply(alloc, &counts)?)
 }
 

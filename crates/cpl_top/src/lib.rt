@@ -6,6 +6,7 @@ mod check;
 mod delivery;
 mod files;
 mod inputs;
+mod migrate;
 mod output;
 mod pieces;
 mod solo;

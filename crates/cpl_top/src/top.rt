@@ -13,6 +13,7 @@ ghost use Rattle.cpl_top.specs.declared.status.Which.{Which};
 
 use crate::check::check;
 use crate::delivery::deliver;
+use crate::migrate::migrate;
 use crate::solo::solo;
 use crate::words::are_arguments;
 use crate::{Reply, Status};
@@ -32,6 +33,7 @@ fn run_command<S: Shelf>(alloc: Global, words: &[String], shelf: &mut S) -> Resu
     };
     match name.as_str() {
         "check" => check(alloc, arguments, shelf),
+        "migrate" => migrate(alloc, arguments, shelf),
         "solo" => solo(alloc, arguments, shelf),
         _ => Err(Status::Usage),
     }

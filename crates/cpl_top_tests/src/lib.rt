@@ -4,8 +4,9 @@
 
 #[cfg(test)]
 mod tests {
-    use cpl_io::{MemShelf, MemSink};
+    use cpl_io::{MemShelf, MemSink, Shelf, Sink};
     use cpl_top::{FileName, Status, Which, still_top};
+    use std::alloc::{AllocError, Global};
     use std::test::Fail;
 
     // Two cells of area 1 side by side.
@@ -43,22 +44,50 @@ mod tests {
         (&[6], &[1], Status::Done, LAST, LINE),
     ];
 
-    #[test]
-    fn each_failing_call_is_named(rt: HostRuntime) -> Result<(), Fail> {
-        let alloc = rt.alloc();
+    fn words(alloc: Global) -> Result<Vec<String>, AllocError> {
         let mut words = Vec::new(alloc);
         for word in ["solo", "g", "s", "o", "1"] {
             words.push(String::from_str(alloc, word)?)?;
         }
-        for (calls, puts, status, restart, line) in ROWS {
-            let mut shelf = MemShelf::new(alloc, calls.to_vec(alloc)?);
-            let mut sink = MemSink::new(alloc, puts.to_vec(alloc)?);
-            shelf.store("g", GRID)?;
-            shelf.store("s", START)?;
-            shelf.store("o.restart", b"kept")?;
-            assert_eq!(rt; still_top(alloc, &words, &mut shelf, &mut sink), status);
-            assert_eq!(rt; shelf.file("o.restart"), Some(restart));
-            assert_eq!(rt; sink.bytes(), line);
+        Ok(words)
+    }
+
+    // The call over any shelf and sink, so that it is proved once.
+    fn answer<S: Shelf, K: Sink>(
+        alloc: Global,
+        shelf: &mut S,
+        sink: &mut K,
+    ) -> Result<Status, AllocError> {
+        let words = words(alloc)?;
+        Ok(still_top(alloc, &words, shelf, sink))
+    }
+
+    // A shelf of which some calls fail, with the grid, the start and an older restart.
+    fn shelf_of(alloc: Global, failing: &[u64]) -> Result<MemShelf, AllocError> {
+        let mut shelf = MemShelf::new(alloc, failing.to_vec(alloc)?);
+        shelf.store("g", GRID)?;
+        shelf.store("s", START)?;
+        shelf.store("o.restart", b"kept")?;
+        Ok(shelf)
+    }
+
+    // Whether the status is the row's, and then the restart, and then the line.
+    fn outcome(
+        alloc: Global,
+        (calls, puts, status, restart, line): Row,
+    ) -> Result<(bool, bool, bool), AllocError> {
+        let mut shelf = shelf_of(alloc, calls)?;
+        let mut sink = MemSink::new(alloc, puts.to_vec(alloc)?);
+        let answered = answer(alloc, &mut shelf, &mut sink)?;
+        let stands = shelf.file("o.restart") == Some(restart);
+        Ok((answered == status, stands, sink.bytes() == line))
+    }
+
+    #[test]
+    fn each_failing_call_is_named(rt: HostRuntime) -> Result<(), Fail> {
+        for (n, row) in ROWS.iter().enumerate() {
+            let found = outcome(rt.alloc(), *row)?;
+            assert_eq!(rt; found, (true, true, true), "in row {n}");
         }
         Ok(())
     }
