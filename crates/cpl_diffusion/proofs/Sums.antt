@@ -1,7 +1,9 @@
 -- Sums over numbers below a bound, and lists as such sums.
-use Rattle.std.proofs.Common.{◌≡◌, refl, ap, ℕ, zero, suc, ◌<◌, arith, inl, inr, List, [], ◌∷◌, length}
+use Rattle.std.proofs.Common.{◌≡◌, ◌∙◌, refl, ap, ℕ, zero, suc, ◌+◌, ◌<◌, arith, inl, inr, List, [], ◌∷◌, length, map}
 use Rattle.std.specs.Prelude.{ℤ, pos, ◌+ℤ◌, ◌-ℤ◌, ◌≤ℤ◌}
+use Rattle.std.specs.List.{range_with_len}
 use Rattle.std.proofs.lemmas.Int.{ints}
+use Rattle.std.proofs.lemmas.List.FromFn.{length-map-range_with_len, get_or-map-range_with_len}
 use Rattle.std.proofs.lemmas.Bool.{cases_eq}
 use Rattle.cpl_restart.specs.Diffusion.{at, total_of}
 
@@ -55,6 +57,24 @@ total_of-sum_to (x ∷ xs) =
     let e = total_of-sum_to xs in
     let first = sum_to-first (at (x ∷ xs)) (length xs) in
     omega (arith, ints)
+
+-- the total of what a function gives below a bound
+pub total_range : (f : ℕ → ℤ) (n : ℕ) → total_of (map f (range_with_len 0 n)) ≡ sum_to f n
+total_range f n =
+    let xs = map f (range_with_len 0 n) in
+    total_of-sum_to xs
+    ∙ ap (sum_to (at xs)) (length-map-range_with_len f 0 n)
+    ∙ sum_to-same (at xs) f n (λ i l. get_or-map-range_with_len f 0 n i i (pos 0) l (omega arith))
+
+-- one sum after another
+pub sum_to-split : (f : ℕ → ℤ) (a b : ℕ) → sum_to f (a + b) ≡ sum_to f a +ℤ sum_to (λ k. f (a + k)) b
+sum_to-split f a zero =
+    let same = ap (sum_to f) (let e : a + 0 ≡ a = omega arith in e) in
+    omega (arith, ints, same)
+sum_to-split f a (suc b) =
+    let same = ap (sum_to f) (let e : a + suc b ≡ suc (a + b) = omega arith in e) in
+    let rest = sum_to-split f a b in
+    omega (arith, ints, same, rest)
 
 -- none of the summands is negative, so neither is the sum, and none is above it
 pub sum_to-least : (f : ℕ → ℤ) (n : ℕ) → ((i : ℕ) → i < n → pos 0 ≤ℤ f i) → pos 0 ≤ℤ sum_to f n

@@ -39,17 +39,17 @@ use Rattle.cpl_laws.proofs.Held.{flights_to_ice, flights_to_ocean, stored, all_a
 use Rattle.cpl_laws.proofs.FastRanges.{cells_natural, one_of_cells, in_category, categories_natural, one_of_categories, stored_total, heat_before_natural, vapour_before_natural, heat_after_natural, vapour_after_natural, sun_most, sun_strength_natural, entered_range, left_range, land_heat_least, land_water_least, skin_heat_least, skin_water_least, category_least, heat_so_far, water_so_far, heat_now, water_now}
 
 -- what a step leaves as it is: the ocean, what flies, and the frazil
-abbrev other_heat : Grid → Mid → ℤ
+abbrev pub other_heat : Grid → Mid → ℤ
 other_heat grid mid = total_of mid.whole.heat +ℤ flying_to_ice grid mid.whole Heat +ℤ flying_to_ocean grid mid.whole Heat +ℤ total_of mid.frazil_heat
 
-abbrev other_water : Grid → Mid → ℤ
+abbrev pub other_water : Grid → Mid → ℤ
 other_water grid mid = total_of mid.whole.ice +ℤ total_of mid.whole.water +ℤ flying_to_ice grid mid.whole Water +ℤ flying_to_ocean grid mid.whole Water +ℤ total_of mid.frazil_water
 
-heat_held : (grid : Grid) (mid : Mid) → held_within grid mid Heat ≡ total_of mid.whole.air_heat +ℤ total_of mid.whole.land_heat +ℤ total_of mid.skin_heat +ℤ total_of mid.whole.ice_heat +ℤ other_heat grid mid
+pub heat_held : (grid : Grid) (mid : Mid) → held_within grid mid Heat ≡ total_of mid.whole.air_heat +ℤ total_of mid.whole.land_heat +ℤ total_of mid.skin_heat +ℤ total_of mid.whole.ice_heat +ℤ other_heat grid mid
 unfolding stocks_of
 heat_held grid mid = omega (arith, ints)
 
-water_held : (grid : Grid) (mid : Mid) → held_within grid mid Water ≡ total_of mid.whole.air_vapour +ℤ total_of mid.whole.land_water +ℤ total_of mid.skin_water +ℤ other_water grid mid
+pub water_held : (grid : Grid) (mid : Mid) → held_within grid mid Water ≡ total_of mid.whole.air_vapour +ℤ total_of mid.whole.land_water +ℤ total_of mid.skin_water +ℤ other_water grid mid
 unfolding stocks_of
 water_held grid mid = omega (arith, ints)
 
@@ -74,7 +74,7 @@ module _ (s : Before) (is : IsNumbered s.grid) (air : IsAirMesh s.grid.air) (mat
 
   -- ROOM
 
-  other_heat_natural : pos 0 ≤ℤ other_heat s.grid s.mid
+  pub other_heat_natural : pos 0 ≤ℤ other_heat s.grid s.mid
   other_heat_natural =
       let a = stored_total s.mid.whole.heat can.mid.whole.stored.heat in
       let b = flights_to_ice s.grid s.mid.whole can.mid.whole.stored Heat in
@@ -90,6 +90,15 @@ module _ (s : Before) (is : IsNumbered s.grid) (air : IsAirMesh s.grid.air) (mat
       let d = stored_total s.mid.frazil_water can.mid.frazil_water.stored in
       let e = stored_total s.mid.whole.ice can.mid.whole.stored.ice in
       omega (arith, ints, a, b, c, d, e)
+
+  -- the ice is part of the other water
+  pub ice_and_more : total_of s.mid.whole.ice ≤ℤ other_water s.grid s.mid
+  ice_and_more =
+      let a = stored_total s.mid.whole.water can.mid.whole.stored.water in
+      let b = flights_to_ice s.grid s.mid.whole can.mid.whole.stored Water in
+      let c = flights_to_ocean s.grid s.mid.whole can.mid.whole.stored Water in
+      let d = stored_total s.mid.frazil_water can.mid.frazil_water.stored in
+      omega (arith, ints, a, b, c, d)
 
   -- the totals keep within the most, and so does each part of them
   record HasRoom : Type 0 where

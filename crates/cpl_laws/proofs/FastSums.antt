@@ -173,27 +173,27 @@ module _ (s : Before) (is : IsNumbered s.grid) (wet : XRef → ℕ → ℤ) wher
 -- WHAT WAS GIVEN WAS TAKEN
 
 module _ (s : Before) (is : IsNumbered s.grid) where
-  given_heat : (list : Surface) → heat_given s list ≡ over_rows s.grid list (heat_with s (rain_on s))
+  pub given_heat : (list : Surface) → heat_given s list ≡ over_rows s.grid list (heat_with s (rain_on s))
   unfolding heat_given
   given_heat list = between_sum s.grid is (heat_with s (rain_on s)) list
 
-  given_water : (list : Surface) → water_given s list ≡ over_rows s.grid list (water_with s (rain_on s))
+  pub given_water : (list : Surface) → water_given s list ≡ over_rows s.grid list (water_with s (rain_on s))
   unfolding water_given
   given_water list = between_sum s.grid is (water_with s (rain_on s)) list
 
-  land_heat_taken : heat_to_land s ≡ over_rows s.grid Land (heat_with s (rain_on s))
+  pub land_heat_taken : heat_to_land s ≡ over_rows s.grid Land (heat_with s (rain_on s))
   unfolding heat_to_land land_taken
   land_heat_taken = land_sum s.grid is (heat_with s (rain_on s))
 
-  land_water_taken : water_to_land s ≡ over_rows s.grid Land (water_with s (rain_on s))
+  pub land_water_taken : water_to_land s ≡ over_rows s.grid Land (water_with s (rain_on s))
   unfolding water_to_land land_taken
   land_water_taken = land_sum s.grid is (water_with s (rain_on s))
 
-  ice_heat_taken : 0 < categories s.grid → heat_to_ice s ≡ over_rows s.grid Ocean (heat_with s (rain_on s))
+  pub ice_heat_taken : 0 < categories s.grid → heat_to_ice s ≡ over_rows s.grid Ocean (heat_with s (rain_on s))
   unfolding heat_to_ice skin_taken category_taken rain_on_ice
   ice_heat_taken some = ice_heat_sum s is (rain_on s) some
 
-  ice_water_taken : water_to_ice s ≡ over_rows s.grid Ocean (water_with s (rain_on s))
+  pub ice_water_taken : water_to_ice s ≡ over_rows s.grid Ocean (water_with s (rain_on s))
   unfolding water_to_ice skin_taken rain_on_ice
   ice_water_taken = ice_water_sum s is (rain_on s)
 

@@ -74,6 +74,10 @@ albedo_range rates are Land k = are.land_albedo
 albedo_range rates are Ocean zero = are.water_albedo
 albedo_range rates are Ocean (suc k) = are.ice_albedo
 
+-- the sun's strength in a month isn't negative
+pub strength_least : (rates : Rates) → AreRates rates → (k : ℕ) → pos 0 ≤ℤ at rates.month k
+strength_least rates are k = at_natural rates.month (λ j d l. (All-from_recursion (IsFromℤ 0 4_000) rates.month are.month j d l).0) k
+
 -- nothing evaporates from ice
 pub dry_ice : (s : Before) (m k : ℕ) → water_up s (ref_in Ocean m) (suc k) ≡ pos 0
 unfolding flux
@@ -91,7 +95,7 @@ module _ (s : Before) (is : IsNumbered s.grid) (air : IsAirMesh s.grid.air) (can
   -- SUN AND RAIN
 
   strength_natural : pos 0 ≤ℤ at s.rates.month (s.month - 1)
-  strength_natural = at_natural s.rates.month (λ k d l. (All-from_recursion (IsFromℤ 0 4_000) s.rates.month can.rates.month k d l).0) (s.month - 1)
+  strength_natural = strength_least s.rates can.rates (s.month - 1)
 
   pub sun_natural : (n : ℕ) → pos 0 ≤ℤ sun_on s n
   unfolding sun_on

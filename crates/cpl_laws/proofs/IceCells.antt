@@ -91,7 +91,7 @@ read_place grid width f n k l h =
 
 -- CELLS
 
-natural_zero : (a : ℤ) → pos 0 ≤ℤ a → nat_lt 0 (amount a) ≡ false → a ≡ pos 0
+pub natural_zero : (a : ℤ) → pos 0 ≤ℤ a → nat_lt 0 (amount a) ≡ false → a ≡ pos 0
 natural_zero (pos zero) h e = refl
 natural_zero (pos (suc n)) h e = let t = ltb-false 0 (suc n) e in absurd (omega arith)
 natural_zero (negsuc n) h e = absurd (omega (arith, ints, h))

@@ -20,3 +20,7 @@ pub mod IceSteps
 pub mod IceCells
 pub mod SlowSums
 pub mod SlowKept
+pub mod Months
+pub mod FastRun
+pub mod Surface
+pub mod SurfaceKept

@@ -48,14 +48,14 @@ block_amounts count bound xs is within most =
     ])
 
 -- zeros stay zeros at any place
-zeros_at : (xs : List ℤ) → All (λ x. x ≡ pos 0) xs → (n : ℕ) → at xs n ≡ pos 0
+pub zeros_at : (xs : List ℤ) → All (λ x. x ≡ pos 0) xs → (n : ℕ) → at xs n ≡ pos 0
 zeros_at xs all n = elim (cases_lt n (length xs)) [
   | inl l ↦ All-get_or (λ x. x ≡ pos 0) xs n (pos 0) l all
   | inr past ↦ get_or_past xs n (pos 0) past
 ]
 
 -- the sum over cells of one kind of number
-cells_none : (f : ℕ → ℤ) (n : ℕ) → ((i : ℕ) → i < n → f i ≡ pos 0) → total_of (for_each n f) ≡ pos 0
+pub cells_none : (f : ℕ → ℤ) (n : ℕ) → ((i : ℕ) → i < n → f i ≡ pos 0) → total_of (for_each n f) ≡ pos 0
 cells_none f n h = total_none f (range_with_len 0 n) (all_range (λ i. f i ≡ pos 0) n h)
 
 module _ (grid : Grid) (rates : Rates) (mid : Mid) (is : IsNumbered grid) (can : CanSlowAll grid rates mid) where

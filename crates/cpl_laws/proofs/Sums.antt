@@ -9,14 +9,7 @@ use Rattle.std.proofs.lemmas.Bool.{cases_eq, eq-eqb, ne_eqb}
 use Rattle.std.proofs.lemmas.List.FromFn.{length-map-range_with_len, get_or-map-range_with_len}
 use Rattle.cpl_restart.specs.Diffusion.{at, total_of}
 use Rattle.cpl_diffusion.proofs.Sums.{sum_to, sum_to-same, sum_to-none, total_of-sum_to}
-
--- the total over numbers below a bound
-pub total_range : (f : ℕ → ℤ) (n : ℕ) → total_of (map f (range_with_len 0 n)) ≡ sum_to f n
-total_range f n =
-    let xs = map f (range_with_len 0 n) in
-    total_of-sum_to xs
-    ∙ ap (sum_to (at xs)) (length-map-range_with_len f 0 n)
-    ∙ sum_to-same (at xs) f n (λ i l. get_or-map-range_with_len f 0 n i i (pos 0) l (omega arith))
+pub use Rattle.cpl_diffusion.proofs.Sums.{total_range, sum_to-split}
 
 -- where one number alone has something
 pub sum_to-pick : (j n : ℕ) (x : ℤ) → j < n → sum_to (λ i. cond (eqb j i) x (pos 0)) n ≡ x
@@ -72,16 +65,6 @@ total_times c f (x ∷ xs) = ap (λ (z : ℤ). (pos c *ℤ f x) +ℤ z) (total_t
 
 pub sum_to-times : (c : ℕ) (f : ℕ → ℤ) (n : ℕ) → sum_to (λ i. pos c *ℤ f i) n ≡ pos c *ℤ sum_to f n
 sum_to-times c f n = sym (total_range (λ i. pos c *ℤ f i) n) ∙ total_times c f (range_with_len 0 n) ∙ ap (λ (z : ℤ). pos c *ℤ z) (total_range f n)
-
--- one sum after another
-pub sum_to-split : (f : ℕ → ℤ) (a b : ℕ) → sum_to f (a + b) ≡ sum_to f a +ℤ sum_to (λ k. f (a + k)) b
-sum_to-split f a zero =
-    let same = ap (sum_to f) (let e : a + 0 ≡ a = omega arith in e) in
-    omega (arith, ints, same)
-sum_to-split f a (suc b) =
-    let same = ap (sum_to f) (let e : a + suc b ≡ suc (a + b) = omega arith in e) in
-    let rest = sum_to-split f a b in
-    omega (arith, ints, same, rest)
 
 -- numbers in blocks of one width
 pub blocks : (f : ℕ → ℕ → ℤ) (width count : ℕ) → 0 < width → sum_to (λ i. f (i / width) (i % width)) (width * count) ≡ sum_to (λ n. sum_to (f n) width) count

@@ -9,6 +9,8 @@ ghost use Rattle.cpl_restart.specs.FastLaws.{CanStep, KeepsAll};
 ghost use Rattle.cpl_fixed.specs.declared.rates.Rates.{Rates};
 ghost use Rattle.cpl_restart.specs.declared.whole.Mid.{Mid};
 ghost use Rattle.cpl_restart.specs.SlowLaws.{CanSlowAll, KeepsSlow};
+ghost use Rattle.cpl_namelist.specs.declared.names.Names.{Names};
+ghost use Rattle.cpl_restart.specs.SurfaceLaws.{CanCouple, KeepsSurface};
 ghost use Rattle.cpl_laws.specs.Once.{IsNumbered, CountedOnce};
 ghost use Rattle.cpl_laws.specs.Cells.{ElementsAgree};
 
@@ -34,4 +36,12 @@ pub fn fast_law()
 /// and the state after it is lawful.
 pub fn slow_law()
     ensures { (grid : Grid) (rates : Rates) (mid : Mid) → IsNumbered grid → CanSlowAll grid rates mid → KeepsSlow grid rates mid }
+{}
+
+/// The air, the land and the ice keep all in a coupling step: the ice takes what flew to it, each fast step and the slow part can be
+/// made and keep all, what was given was taken, and all that the state held, but what flew to the ocean, is there after the step,
+/// with the sun that entered, less what left to space.
+pub fn surface_law()
+    ensures { (grid : Grid) (names : Names) (whole : Whole) → IsNumbered grid → MatesAgree grid.air.mosaic → CanCouple grid names whole
+        → KeepsSurface grid names whole }
 {}

@@ -3,4 +3,4 @@
 
 mod laws;
 
-pub use laws::{elements_law, fast_law, once_law, slow_law};
+pub use laws::{elements_law, fast_law, once_law, slow_law, surface_law};

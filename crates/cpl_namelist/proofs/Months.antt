@@ -14,10 +14,10 @@ abbrev count : ℕ × ℕ × ℕ → ℕ
 count civil = day_count (pos civil.0) civil.1 civil.2
 
 -- the date lies so many days after the first of the month
-record IsFound (year month days : ℕ) (civil : ℕ × ℕ × ℕ) : Type 0 where
+pub record IsFound (year month days : ℕ) (civil : ℕ × ℕ × ℕ) : Type 0 where
   counted : count civil ≡ day_count (pos year) month 1 + days
-  month_low : 1 ≤ civil.1
-  month_high : civil.1 ≤ 12
+  pub month_low : 1 ≤ civil.1
+  pub month_high : civil.1 ≤ 12
   day_low : 1 ≤ civil.2
   day_high : civil.2 ≤ days_in_month (pos civil.0) civil.1
 
@@ -70,7 +70,7 @@ unfolding date_from Goes
 found zero year month days le low high = within year month days low high (omega (arith, days_in_month_bounds (pos year) month))
 found (suc more) year month days le low high = step more (found more) year month days (ltb days (days_in_month (pos year) month)) (eqb month 12) refl refl le low high
 
-found_from : (year month days : ℕ) → 1 ≤ month → month ≤ 12 → IsFound year month days (date_from days year month days)
+pub found_from : (year month days : ℕ) → 1 ≤ month → month ≤ 12 → IsFound year month days (date_from days year month days)
 unfolding Goes
 found_from year month days low high = found days year month days (omega arith) low high
 

@@ -16,3 +16,4 @@ pub mod Transport
 pub mod Cut
 pub mod CouplingStep
 pub mod SlowLaws
+pub mod SurfaceLaws
