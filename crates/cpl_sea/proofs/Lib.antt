@@ -10,3 +10,5 @@ pub mod Looked
 pub mod Ready
 pub mod Tops
 pub mod Entered
+pub mod TopTotals
+pub mod Dry

@@ -1,6 +1,6 @@
 -- A cell of open water alone slows to itself.
-use Rattle.std.proofs.Common.{◌≡◌, ◌∙◌, refl, sym, ap, subst, Bool, true, false, cond, eqb, eq-eqb, ℕ, zero, suc, ◌+◌, ◌-◌, ◌*◌, ◌/◌, ◌<◌, ◌≤◌, min, arith, List, [], ◌∷◌, length, get_or}
-use Rattle.std.specs.Prelude.{ℤ, pos, neg_ℤ, ◌+ℤ◌, ◌-ℤ◌, ◌≤ℤ◌, All, slice_set, nat_lt}
+use Rattle.std.proofs.Common.{◌≡◌, ◌∙◌, refl, sym, ap, Bool, true, false, cond, eqb, ℕ, zero, suc, ◌+◌, ◌-◌, ◌*◌, ◌/◌, min, arith, List, [], ◌∷◌}
+use Rattle.std.specs.Prelude.{ℤ, pos, neg_ℤ, ◌+ℤ◌, All, slice_set, nat_lt}
 use Rattle.std.proofs.lemmas.Int.{ints}
 use Rattle.std.proofs.lemmas.List.{set-get_or}
 use Rattle.std.proofs.lemmas.List.Elements.{All-tail}
@@ -11,9 +11,8 @@ use Rattle.cpl_fixed.specs.declared.gain.Gain.{Gain}
 use Rattle.cpl_fixed.specs.declared.limits.TheConstants.{PARTS, WATER_HEAT}
 use Rattle.cpl_fixed.specs.declared.rates.Rates.{Rates}
 use Rattle.cpl_ice.specs.declared.cell.IceCell.{IceCell}
-use Rattle.cpl_ice.specs.declared.parts.Salty.{Salty}
 use Rattle.cpl_ice.specs.Cells.{IsIceCell, nothing}
-use Rattle.cpl_ice.specs.Slow.{added, moved, closed_part, frozen, is_thick, joined, ridged, ridged_at, melting, melting_at, emptied, thinned, melted, melted_at, before_melt, after_melt, slowed, returned}
+use Rattle.cpl_ice.specs.Slow.{added, moved, closed_part, frozen, is_thick, joined, ridged, ridged_at, melting_at, emptied, thinned, melted, melted_at, before_melt, after_melt, slowed, returned}
 use Rattle.cpl_ice.proofs.Amounts.{amount_at}
 use Rattle.cpl_ice.proofs.Totals.{at_most_total}
 

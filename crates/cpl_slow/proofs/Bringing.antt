@@ -1,6 +1,6 @@
 -- What drains bring in their order is what arrives in each cell.
-use Rattle.std.proofs.Common.{◌≡◌, ◌∙◌, refl, sym, ap, subst, Bool, true, false, cond, eqb, ℕ, zero, suc, ◌+◌, ◌*◌, ◌<◌, ◌≤◌, min, arith, inl, inr, List, [], ◌∷◌, length, get_or, take, map}
-use Rattle.std.specs.Prelude.{ℤ, pos, ◌+ℤ◌, ◌≤ℤ◌, ◌<ℤ◌}
+use Rattle.std.proofs.Common.{◌≡◌, ◌∙◌, refl, sym, ap, subst, Bool, true, false, cond, eqb, ℕ, zero, suc, ◌+◌, ◌<◌, ◌≤◌, arith, inl, inr, List, [], ◌∷◌, length, get_or, take, map}
+use Rattle.std.specs.Prelude.{ℤ, pos, ◌+ℤ◌, ◌≤ℤ◌}
 use Rattle.std.proofs.lemmas.Int.{ints}
 use Rattle.std.proofs.lemmas.Bool.{cases_eq}
 use Rattle.std.proofs.lemmas.List.{take_all}
@@ -13,11 +13,9 @@ use Rattle.cpl_fixed.specs.declared.rates.Rates.{Rates}
 use Rattle.cpl_land.specs.declared.cell.LandCell.{LandCell}
 use Rattle.cpl_land.specs.Land.{runoff}
 use Rattle.cpl_mosaic.specs.Sides.{is_same_cell}
-use Rattle.cpl_mosaic.specs.Contacts.{cells_of}
-use Rattle.cpl_mosaic.specs.Cells.{number_of, cell_of, NumbersAgree}
+use Rattle.cpl_mosaic.specs.Cells.{cell_of}
 use Rattle.cpl_xgrid.specs.declared.grid.Grid.{Grid}
 use Rattle.cpl_xgrid.specs.declared.parts.Outlet.{Outlet}
-use Rattle.cpl_xgrid.specs.Grids.{IsGrid}
 use Rattle.cpl_xgrid.specs.Groups.{numbers_from}
 use Rattle.cpl_xgrid.proofs.CellNumbers.{test_agrees}
 use Rattle.cpl_laws.proofs.Groups.{total_cond}
@@ -26,7 +24,7 @@ use Rattle.cpl_laws.proofs.Outlets.{outlet_in}
 use Rattle.cpl_laws.proofs.Runoff.{before_natural, drained_below, own_weight, share_natural, weight_some}
 use Rattle.cpl_restart.specs.declared.whole.Whole.{Whole}
 use Rattle.cpl_restart.specs.States.{land_cell, land_cells, ocean_cells}
-use Rattle.cpl_restart.specs.Slow.{arrived, drain, drained_cell, no_outlet, outlet_at, outlet_ocean, outlet_share, outlets_to, runoff_of, weight_before, weights_of}
+use Rattle.cpl_restart.specs.Slow.{arrived, drained_cell, no_outlet, outlet_at, outlet_ocean, outlet_share, outlets_to, runoff_of, weights_of}
 use Rattle.cpl_slow.specs.declared.drains.Drain.{Drain}
 use Rattle.cpl_slow.specs.declared.drains.Drains.{Drains}
 use Rattle.cpl_slow.specs.Land.{gain_at}

@@ -1,6 +1,6 @@
 -- What drains bring, one after another.
-use Rattle.std.proofs.Common.{◌≡◌, ◌≢◌, ◌∙◌, refl, sym, ap, subst, Bool, true, false, cond, eqb, ℕ, zero, suc, ◌+◌, ◌*◌, ◌/◌, ◌<◌, ◌≤◌, arith, inl, inr, add-one, eq-eqb, List, length, get_or}
-use Rattle.std.specs.Prelude.{ℤ, pos, negsuc, ◌+ℤ◌, ◌-ℤ◌, ◌<ℤ◌, ◌≤ℤ◌, slice_set}
+use Rattle.std.proofs.Common.{◌≡◌, ◌≢◌, ◌∙◌, refl, sym, ap, subst, Bool, true, false, cond, eqb, ℕ, ◌+◌, ◌*◌, ◌/◌, ◌<◌, arith, inl, inr, add-one, eq-eqb, List, length}
+use Rattle.std.specs.Prelude.{ℤ, pos, negsuc, ◌+ℤ◌, ◌≤ℤ◌, slice_set}
 use Rattle.std.proofs.lemmas.Int.{ints}
 use Rattle.std.proofs.lemmas.Bool.{cases_eq, ne_eqb}
 use Rattle.std.proofs.lemmas.List.{get_or-set_same, get_or-set_other, length-set}
@@ -12,7 +12,7 @@ use Rattle.cpl_fixed.specs.declared.limits.TheConstants.{MOST_TOTAL}
 use Rattle.cpl_fixed.proofs.Parts.{part_pos}
 use Rattle.cpl_slow.specs.declared.drains.Drain.{Drain}
 use Rattle.cpl_slow.specs.Land.{gain_at, no_gain}
-use Rattle.cpl_slow.specs.Drains.{CanBring, IsGained, IsRunoff, brought, brought_heat, brought_to, brought_water, drain_at}
+use Rattle.cpl_slow.specs.Drains.{CanBring, IsGained, brought_heat, brought_to, brought_water, drain_at}
 
 -- nothing has no part
 none_of : (w n : ℕ) → part_of (pos 0) (pos w) (pos n) ≡ pos 0

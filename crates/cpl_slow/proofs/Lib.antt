@@ -10,3 +10,4 @@ pub mod Swapped
 pub mod Bringing
 pub mod Dried
 pub mod Whole
+pub mod Summed

@@ -1,12 +1,11 @@
 -- The outlets of a grid as drains, one after another.
-use Rattle.std.proofs.Common.{◌≡◌, ◌≢◌, ◌∙◌, refl, sym, ap, subst, Bool, true, false, cond, eqb, ℕ, zero, suc, ◌+◌, ◌*◌, ◌<◌, ◌≤◌, ◌++◌, arith, below_more, inl, inr, eq-eqb, List, [], ◌∷◌, length, get_or, take}
+use Rattle.std.proofs.Common.{◌≡◌, ◌≢◌, ◌∙◌, sym, ap, subst, Bool, true, false, cond, ℕ, suc, ◌+◌, ◌*◌, ◌<◌, ◌++◌, arith, below_more, inl, inr, eq-eqb, List, [], ◌∷◌, length, take}
 use Rattle.std.specs.Prelude.{ℤ, pos, ◌+ℤ◌, ◌≤ℤ◌, slice_set}
 use Rattle.std.proofs.lemmas.Int.{ints}
 use Rattle.std.proofs.lemmas.Bool.{cases_eq, ne_eqb}
 use Rattle.std.proofs.lemmas.List.{get_or-set_same, get_or-set_other, length-set, length_push, get_or_push, get_or_append_left, take_all}
 use Rattle.cpl_fixed.specs.Amounts.{at}
 use Rattle.cpl_mosaic.specs.Sides.{is_same_cell}
-use Rattle.cpl_mosaic.specs.Contacts.{cells_of}
 use Rattle.cpl_mosaic.specs.Cells.{number_of, cell_of, NumbersAgree}
 use Rattle.cpl_xgrid.specs.declared.grid.Grid.{Grid}
 use Rattle.cpl_xgrid.specs.declared.parts.Outlet.{Outlet}
@@ -17,7 +16,7 @@ use Rattle.cpl_laws.proofs.Weights.{measured_more, measured_natural}
 use Rattle.cpl_restart.specs.States.{land_cells}
 use Rattle.cpl_restart.specs.Slow.{no_outlet, outlet_at, drained_cell, weight_before, weights_of}
 use Rattle.cpl_slow.specs.declared.drains.Drain.{Drain}
-use Rattle.cpl_slow.specs.Drains.{AreDrains, AreDrainsTo, IsDrain, drain_at}
+use Rattle.cpl_slow.specs.Drains.{AreDrainsTo, IsDrain, drain_at}
 use Rattle.cpl_slow.proofs.Weights.{weights_most}
 
 module _ (grid : Grid) (is : IsGrid grid) (agree : NumbersAgree grid.land.mosaic.tiles) (n : ℕ) (l : n < length grid.xgrid.outlets) (each : List Drain) (weights : List ℤ) (are : AreDrainsTo grid n each weights) where

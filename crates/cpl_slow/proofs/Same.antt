@@ -1,21 +1,19 @@
 -- Cells of the ice that stay as they are.
-use Rattle.std.proofs.Common.{◌≡◌, ◌∙◌, refl, sym, ap, subst, Bool, true, false, cond, ltb, List, ℕ, ◌+◌, ◌*◌, ◌<◌, ◌≤◌, arith}
-use Rattle.std.specs.Prelude.{ℤ, pos, negsuc, ◌+ℤ◌, ◌≤ℤ◌, All}
+use Rattle.std.proofs.Common.{◌≡◌, ◌∙◌, refl, sym, ap, subst, Bool, true, cond, ltb, ℕ, ◌+◌, ◌*◌, ◌≤◌, arith}
+use Rattle.std.specs.Prelude.{ℤ, pos, negsuc, ◌+ℤ◌, ◌≤ℤ◌}
 use Rattle.std.proofs.lemmas.Bool.{lt-ltb}
 use Rattle.std.proofs.lemmas.Int.{ints}
-use Rattle.cpl_fixed.specs.Amounts.{IsAmount, amount, at}
-use Rattle.cpl_fixed.specs.Totals.{total_of}
+use Rattle.cpl_fixed.specs.Amounts.{amount, at}
 use Rattle.cpl_fixed.specs.declared.gain.Gain.{Gain}
 use Rattle.cpl_fixed.specs.declared.rates.Rates.{Rates}
 use Rattle.cpl_xgrid.specs.declared.grid.Grid.{Grid}
 use Rattle.cpl_ice.specs.declared.cell.IceCell.{IceCell}
 use Rattle.cpl_ice.specs.declared.parts.Salty.{Salty}
 use Rattle.cpl_ice.specs.Cells.{IsIceCell, IsSalty, nothing}
-use Rattle.cpl_ice.specs.Slow.{CanSlow, after_melt, heat_of, returned, slowed, water_of}
-use Rattle.cpl_ice.proofs.Steps.{after_keeps}
+use Rattle.cpl_ice.specs.Slow.{CanSlow, returned, slowed}
 use Rattle.cpl_ice.proofs.Totals.{total_least}
 use Rattle.cpl_restart.specs.declared.whole.Mid.{Mid}
-use Rattle.cpl_restart.specs.States.{categories, ice_cell, of_cell}
+use Rattle.cpl_restart.specs.States.{categories, ice_cell}
 use Rattle.cpl_restart.specs.Slow.{returned_if_wet, slowed_if_wet}
 use Rattle.cpl_slow.specs.declared.ice.IceLists.{IceLists}
 use Rattle.cpl_slow.specs.Ice.{IsBare, IsCellPut, with_ice}

@@ -1,5 +1,5 @@
 -- Lists that change places with those of a state.
-use Rattle.std.proofs.Common.{◌≡◌, ◌∙◌, refl, sym, ap, subst, ℕ, ◌<◌, List, length}
+use Rattle.std.proofs.Common.{◌≡◌, ◌∙◌, sym, ap, subst, List, length}
 use Rattle.cpl_fixed.specs.declared.gain.Gain.{Gain}
 use Rattle.cpl_fixed.specs.declared.rates.Rates.{Rates}
 use Rattle.cpl_xgrid.specs.declared.grid.Grid.{Grid}

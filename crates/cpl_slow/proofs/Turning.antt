@@ -1,13 +1,12 @@
 -- The cells of the ice slow one after another.
-use Rattle.std.proofs.Common.{◌≡◌, ◌∙◌, refl, sym, ap, subst, ℕ, zero, suc, ◌+◌, ◌*◌, ◌/◌, ◌%◌, ◌<◌, ◌≤◌, arith, List, [], ◌∷◌, length, get_or}
-use Rattle.std.specs.Prelude.{ℤ, pos}
+use Rattle.std.proofs.Common.{◌≡◌, ◌∙◌, sym, ap, subst, ℕ, ◌+◌, ◌*◌, ◌/◌, ◌%◌, ◌<◌, arith, List, length}
+use Rattle.std.specs.Prelude.{ℤ}
 use Rattle.std.proofs.lemmas.Nat.{div-mul-add, mod-mul-add}
 use Rattle.cpl_fixed.specs.Amounts.{at}
 use Rattle.cpl_fixed.specs.declared.gain.Gain.{Gain}
 use Rattle.cpl_fixed.specs.declared.rates.Rates.{Rates}
 use Rattle.cpl_xgrid.specs.declared.grid.Grid.{Grid}
 use Rattle.cpl_ice.specs.declared.cell.IceCell.{IceCell}
-use Rattle.cpl_ice.specs.declared.parts.Salty.{Salty}
 use Rattle.cpl_restart.specs.declared.whole.Mid.{Mid}
 use Rattle.cpl_restart.specs.States.{categories, ice_cell, ocean_cells, part_count}
 use Rattle.cpl_restart.specs.FastStep.{for_each}

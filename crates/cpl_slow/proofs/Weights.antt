@@ -1,5 +1,5 @@
 -- The weights of outlets are small.
-use Rattle.std.proofs.Common.{Bool, true, false, cond, ℕ, zero, suc, ◌*◌, ◌<◌, arith, List, [], ◌∷◌, take}
+use Rattle.std.proofs.Common.{Bool, true, false, cond, ℕ, zero, suc, ◌*◌, arith, List, [], ◌∷◌, take}
 use Rattle.std.specs.Prelude.{ℤ, pos, ◌≤ℤ◌, All}
 use Rattle.std.proofs.lemmas.Int.{ints}
 use Rattle.std.proofs.lemmas.List.Elements.{All-tail}

@@ -1,5 +1,5 @@
 -- The land and the ice together are the slow part.
-use Rattle.std.proofs.Common.{◌≡◌, ◌∙◌, refl, sym, ap, subst, ℕ, ◌*◌, ◌/◌, ◌%◌, ◌<◌, arith, List}
+use Rattle.std.proofs.Common.{◌≡◌, ◌∙◌, sym, ap, subst, ◌*◌, ◌/◌, ◌%◌, ◌<◌, arith, List}
 use Rattle.cpl_fixed.specs.Amounts.{at}
 use Rattle.cpl_fixed.specs.declared.gain.Gain.{Gain}
 use Rattle.cpl_fixed.specs.declared.rates.Rates.{Rates}
@@ -11,8 +11,7 @@ use Rattle.cpl_restart.specs.declared.whole.Mid.{Mid}
 use Rattle.cpl_restart.specs.States.{IsMid, categories, ice_cell, ocean_cells, part_count}
 use Rattle.cpl_restart.specs.Slow.{for_each_place, returned_at, returned_if_wet, slow_after, slow_cell, to_ocean_number}
 use Rattle.cpl_restart.specs.SlowLaws.{KeepsSlow}
-use Rattle.cpl_slow.specs.Ice.{AllCanSlow, AreSkins, back_of}
-use Rattle.cpl_slow.specs.Land.{gain_at}
+use Rattle.cpl_slow.specs.Ice.{AllCanSlow, back_of}
 use Rattle.cpl_slow.specs.Steps.{HasArrived, HasIce, with_dry_land, with_slow_ice}
 
 module _ (grid : Grid) (rates : Rates) (mid : Mid) (whole : Whole) (gains : List Gain) (dry : whole ≡ with_dry_land grid rates mid.whole) (come : HasArrived grid rates mid.whole gains) where

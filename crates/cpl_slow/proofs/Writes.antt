@@ -1,11 +1,11 @@
 -- Lists that are written place by place, and block by block.
-use Rattle.std.proofs.Common.{◌≡◌, ◌≢◌, ◌∙◌, refl, sym, ap, subst, ℕ, ◌+◌, ◌*◌, ◌/◌, ◌%◌, ◌<◌, ◌≤◌, arith, inl, inr, below_more, Bool, cond, ltb, List, length, map, get_or, ◌-◌, w64, to_z, of_z}
+use Rattle.std.proofs.Common.{◌≡◌, ◌≢◌, ◌∙◌, refl, sym, ap, ℕ, ◌+◌, ◌*◌, ◌<◌, ◌≤◌, arith, inl, inr, below_more, Bool, cond, ltb, List, length, map, get_or, ◌-◌, w64, to_z, of_z}
 use Rattle.std.specs.Prelude.{ℤ, pos, ◌≤ℤ◌, slice_set}
 use Rattle.std.proofs.lemmas.Int.{ints}
 use Rattle.cpl_fixed.specs.declared.limits.TheConstants.{MOST_TOTAL}
 use Rattle.std.specs.List.{range_with_len}
 use Rattle.std.proofs.lemmas.Bool.{cases_lt, lt-ltb, le-ltb}
-use Rattle.std.proofs.lemmas.List.{get_or-set_same, get_or-set_other, length-set, get_or_past}
+use Rattle.std.proofs.lemmas.List.{get_or-set_same, get_or-set_other, length-set}
 use Rattle.std.proofs.lemmas.List.FromFn.{fill_by_all}
 use Rattle.cpl_fixed.specs.Amounts.{at}
 use Rattle.cpl_restart.specs.States.{of_cell, filled_up}

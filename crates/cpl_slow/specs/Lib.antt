@@ -3,4 +3,5 @@ pub mod Land
 pub mod Drains
 pub mod Ice
 pub mod Rooms
+pub mod Sums
 pub mod Steps

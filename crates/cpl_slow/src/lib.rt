@@ -9,7 +9,9 @@ mod land;
 mod room;
 mod slow;
 mod take;
+mod tally;
 
 pub use room::SlowRoom;
 pub use slow::slow_step;
 pub use take::take_flights;
+pub use tally::SlowTally;

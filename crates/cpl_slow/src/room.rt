@@ -1,11 +1,14 @@
 // Room for the slow part of a coupling step.
-ghost use Rattle.std.specs.Prelude.{◌≡◌, IfOk};
+ghost use Rattle.std.specs.Prelude.{◌≡◌, length, IfOk};
 ghost use Rattle.cpl_xgrid.specs.Grids.{IsGrid};
+ghost use Rattle.cpl_slow.specs.Land.{gain_at};
 ghost use Rattle.cpl_slow.specs.Rooms.{IsSlowRoom};
+ghost use Rattle.cpl_slow.specs.Sums.{AreGains, gain_sums};
 
 use crate::drains::{Drains, NO_GAIN, drains_of};
 use crate::ice::IceLists;
 use crate::land::LandLists;
+use crate::tally::{SlowTally, gain_sums};
 use cpl_fixed::Gain;
 use cpl_xgrid::Grid;
 use std::alloc::{AllocError, Global};
@@ -39,5 +42,18 @@ impl SlowRoom {
             ice: IceLists::new(alloc),
             spare: Vec::new(alloc),
         })
+    }
+
+    // What stands in the room of what ran off and arrived.
+    pub(crate) fn tally(&self) -> SlowTally
+        requires runoffs { AreGains self.now.runoffs.items }
+        requires arrived { AreGains self.now.arrived.items }
+        ensures gave { result.gave ≡ gain_sums (length self.now.runoffs.items) (gain_at self.now.runoffs.items) }
+        ensures took { result.took ≡ gain_sums (length self.now.arrived.items) (gain_at self.now.arrived.items) }
+    {
+        SlowTally {
+            gave: gain_sums(&self.runoffs),
+            took: gain_sums(&self.arrived),
+        }
     }
 }

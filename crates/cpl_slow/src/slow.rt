@@ -3,14 +3,17 @@ ghost use Rattle.std.specs.Prelude.{◌≡◌};
 ghost use Rattle.cpl_fixed.specs.Ranges.{AreRates};
 ghost use Rattle.cpl_xgrid.specs.Grids.{IsGrid};
 ghost use Rattle.cpl_laws.specs.Once.{IsNumbered};
-ghost use Rattle.cpl_restart.specs.Slow.{slow_after};
+ghost use Rattle.cpl_restart.specs.States.{land_cells, ocean_cells};
+ghost use Rattle.cpl_restart.specs.Slow.{arrived, runoff_of, slow_after};
 ghost use Rattle.cpl_restart.specs.SlowLaws.{CanSlowAll, KeepsSlow};
 ghost use Rattle.cpl_slow.specs.Ice.{AllCanSlow};
 ghost use Rattle.cpl_slow.specs.Rooms.{IsSlowRoom};
+ghost use Rattle.cpl_slow.specs.Sums.{HasRunOff, gain_sums};
 ghost use Rattle.cpl_slow.specs.Steps.{CanDrain, HasArrived, HasIce, with_dry_land, with_slow_ice};
 
 use crate::land::run_off;
 use crate::room::SlowRoom;
+use crate::tally::SlowTally;
 use cpl_fixed::Rates;
 use cpl_restart::{Mid, Whole};
 use cpl_xgrid::Grid;
@@ -22,6 +25,7 @@ fn drain_land(grid: &Grid, rates: &Rates, whole: &mut Whole, room: &mut SlowRoom
     requires can { CanDrain grid.now rates.now whole.old }
     requires room { IsSlowRoom grid.now room.old }
     ensures whole { whole.new ≡ with_dry_land grid.now rates.now whole.old }
+    ensures runoff { HasRunOff grid.now rates.now whole.old room.new.runoffs.items }
     ensures arrived { HasArrived grid.now rates.now whole.old room.new.arrived.items }
     ensures room { IsSlowRoom grid.now room.new }
 {
@@ -56,11 +60,13 @@ fn slow_ice(grid: &Grid, rates: &Rates, mid: &mut Mid, room: &mut SlowRoom)
 /// ridges and melts. What the ice gives back flies to the ocean. It takes no memory.
 ///
 /// The state is lawful, nothing flies, and all its heat, water and salt are each at most 2^62 - 1. Skin and frazil are used up:
-/// their lists stay as they are, and hold nothing that counts any more.
-pub fn slow_step(grid: &Grid, rates: &Rates, mid: &mut Mid, room: &mut SlowRoom)
+/// their lists stay as they are, and hold nothing that counts any more. The tally is of the runoff.
+pub fn slow_step(grid: &Grid, rates: &Rates, mid: &mut Mid, room: &mut SlowRoom) -> SlowTally
     requires can { CanSlowAll grid.now rates.now mid.old }
     requires room { IsSlowRoom grid.now room.old }
     ensures value { mid.new ≡ record mid.old { whole = slow_after grid.now rates.now mid.old } }
+    ensures gave { result.gave ≡ gain_sums (land_cells grid.now) (runoff_of grid.now rates.now mid.old.whole) }
+    ensures took { result.took ≡ gain_sums (ocean_cells grid.now) (arrived grid.now rates.now mid.old.whole) }
     ensures keeps { KeepsSlow grid.now rates.now mid.old }
     ensures room { IsSlowRoom grid.now room.new }
 {
@@ -69,5 +75,7 @@ pub fn slow_step(grid: &Grid, rates: &Rates, mid: &mut Mid, room: &mut SlowRoom)
     let _lands = grid.land.mosaic.cells();
     let _oceans = grid.ocean.mosaic.cells();
     drain_land(grid, rates, &mut mid.whole, room);
+    let tally = room.tally();
     slow_ice(grid, rates, mid, room);
+    tally
 }

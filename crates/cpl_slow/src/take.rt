@@ -4,7 +4,7 @@ ghost use Rattle.cpl_xgrid.specs.Grids.{IsGrid};
 ghost use Rattle.cpl_restart.specs.States.{ocean_cells, of_cell};
 ghost use Rattle.cpl_restart.specs.FastStep.{for_each};
 ghost use Rattle.cpl_restart.specs.CouplingStep.{no_flights, taken};
-ghost use Rattle.cpl_slow.specs.Rooms.{CanTake};
+ghost use Rattle.cpl_slow.specs.Rooms.{CanTake, IsSlowRoom};
 
 use crate::room::SlowRoom;
 use cpl_fixed::List;
@@ -50,8 +50,10 @@ fn clear(list: &mut List<i64>, spare: &mut Vec<i64>)
 /// The beginning of a coupling step: the ice takes the flight to it, as frazil and skin, and nothing flies any more. The ocean
 /// has the flight to it from the state before. What skin and frazil were before is of no use. It takes no memory.
 pub fn take_flights(grid: &Grid, mid: &mut Mid, room: &mut SlowRoom)
-    requires { CanTake grid.now mid.old }
-    ensures { mid.new ≡ taken grid.now mid.old.whole }
+    requires can { CanTake grid.now mid.old }
+    requires room { IsSlowRoom grid.now room.old }
+    ensures value { mid.new ≡ taken grid.now mid.old.whole }
+    ensures room { IsSlowRoom grid.now room.new }
 {
     let cells = grid.ocean.mosaic.cells() as usize;
     let flights = mid.whole.to_ice.as_slice();

@@ -1,4 +1,4 @@
-use Rattle.std.proofs.Common.{◌≡◌, ◌∙◌, sym, subst, ap, ◌+◌, ◌*◌, ◌<◌, ◌≤◌, arith, ℕ, length, List, w64, to_z, of_z}
+use Rattle.std.proofs.Common.{◌≡◌, ◌∙◌, sym, subst, ap, ◌+◌, ◌*◌, ◌<◌, arith, ℕ, length, List, w64, to_z, of_z}
 use Rattle.std.specs.Prelude.{ℤ, pos, ◌≤ℤ◌, ◌+ℤ◌, slice_index_or, slice_set}
 use Rattle.std.proofs.lemmas.Int.{ints}
 use Rattle.std.proofs.lemmas.List.{get_or_read}
@@ -14,7 +14,6 @@ use Rattle.cpl_slow.specs.declared.drains.Drain.{Drain}
 use Rattle.cpl_slow.specs.Drains.{AreDrainsTo}
 use Rattle.cpl_laws.proofs.Outlets.{IsOutlet, outlet_in}
 use Rattle.cpl_slow.proofs.Listed.{before_range, drains_more, drains_all}
-use Rattle.cpl_slow.proofs.Writes.{word}
 use Rattle.cpl_slow.proofs.drains.drains_of.Goals as goal
 
 -- an outlet of a list that is the grid's

@@ -2,7 +2,6 @@ use Rattle.std.proofs.Common.{◌≡◌, ◌∙◌, ap, ℕ, ◌<◌, arith, len
 use Rattle.std.specs.Prelude.{ℤ, pos}
 use Rattle.std.proofs.lemmas.Int.{ints}
 use Rattle.cpl_fixed.specs.Amounts.{at}
-use Rattle.cpl_fixed.specs.declared.gain.Gain.{Gain}
 use Rattle.cpl_land.specs.declared.cell.LandCell.{LandCell}
 use Rattle.cpl_land.specs.Land.{dried, runoff}
 use Rattle.cpl_slow.specs.Land.{cell_of_lists, no_gain}

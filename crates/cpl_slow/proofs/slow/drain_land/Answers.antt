@@ -1,7 +1,6 @@
-use Rattle.std.proofs.Common.{◌≡◌, ◌∙◌, sym, ap, subst, ◌<◌, arith, List, length}
+use Rattle.std.proofs.Common.{◌∙◌, sym, ap, subst, arith, length}
 use Rattle.std.specs.Vec.{with_items}
 use Rattle.std.proofs.lemmas.List.{with_items_is}
-use Rattle.cpl_fixed.specs.declared.gain.Gain.{Gain}
 use Rattle.cpl_slow.specs.Steps.{HasArrived}
 use Rattle.cpl_slow.proofs.Bringing.{can_bring, has_arrived}
 use Rattle.cpl_slow.proofs.Dried.{cells_are, heats_after, put_back, runoffs_after, waters_after}
@@ -44,3 +43,12 @@ returns-clause-arrived c =
     let is = has_arrived c.args.grid.now c.requires.grid c.args.room.now.drains c.requires.room.drains
     c.args.rates.now c.args.whole.now c.requires.can c.deref.result.now count each (length c.args.room.now.drains.each.items) (length c.deref_mut-4.result.now) c.requires.room.drains.count long c.bring.new.arrived c.bring.ensures in
     subst (HasArrived c.args.grid.now c.args.rates.now c.args.whole.now) (sym (with_items_is c.args.room.now.arrived c.bring.new.arrived (omega (arith, c.bring.ensures.count, c.deref_mut-4.ensures.len)))) is
+
+pub returns-clause-runoff : goal.returns-clause-runoff
+returns-clause-runoff c =
+    let same = with_items_is c.args.room.now.runoffs c.run_off.new.runoffs (omega (arith, c.deref_mut-3.ensures.len, c.run_off.auto.runoffs)) in
+    record {
+      count = ap length same ∙ c.run_off.auto.runoffs ∙ ap length c.deref_mut-3.ensures.value ∙ c.requires.room.runoffs;
+      each = runoffs_after c.args.grid.now c.requires.grid.rules c.args.rates.now c.args.whole.now c.requires.can c.deref_mut.result.now c.deref_mut-2.result.now c.as_slice.result.now
+          (c.deref_mut.ensures.value ∙ c.swap.ensures.lists.heat) (c.deref_mut-2.ensures.value ∙ c.swap.ensures.lists.water) c.as_slice.ensures _ c.run_off.new.runoffs same c.run_off.ensures.runoff;
+    }

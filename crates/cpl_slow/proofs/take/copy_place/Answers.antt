@@ -1,4 +1,4 @@
-use Rattle.std.proofs.Common.{ℕ, arith, length}
+use Rattle.std.proofs.Common.{arith}
 use Rattle.std.specs.Prelude.{pos}
 use Rattle.std.proofs.lemmas.List.FromFn.{fill_by_all}
 use Rattle.cpl_restart.specs.States.{of_cell}

@@ -1,17 +1,16 @@
-use Rattle.std.proofs.Common.{◌≡◌, ◌∙◌, sym, ap, ℕ, arith, List, length}
-use Rattle.std.specs.Prelude.{ℤ, pos}
-use Rattle.cpl_restart.specs.States.{ocean_cells, of_cell}
+use Rattle.std.proofs.Common.{◌∙◌, ap}
+use Rattle.cpl_restart.specs.States.{of_cell}
 use Rattle.cpl_restart.specs.FastStep.{for_each}
 use Rattle.cpl_restart.specs.CouplingStep.{no_flights, taken}
 use Rattle.cpl_slow.proofs.take.take_flights.Goals as goal
 
-pub returns : goal.returns
+pub returns-clause-value : goal.returns-clause-value
 unfolding taken
-returns c =
+returns-clause-value c =
     let mid = c.args.mid.now in
     let cells = c.cells-cells.ensures.count in
     let flights = c.as_slice-flights.ensures in
-    let can = c.requires in
+    let can = c.requires.can in
     let frazil_water = c.spread.ensures ∙ (λ i. for_each (cells i) (λ n. of_cell 5 n 0 (flights i))) in
     let frazil_heat = c.spread-2.ensures ∙ (λ i. for_each (cells i) (λ n. of_cell 5 n 1 (flights i))) in
     let skin_water = c.spread-3.ensures ∙ (λ i. for_each (cells i) (λ n. of_cell 5 n 2 (flights i))) in

@@ -1,4 +1,4 @@
-use Rattle.std.proofs.Common.{◌≡◌, ◌≢◌, sym, subst, ap, ◌<◌, ◌≤◌, arith}
+use Rattle.std.proofs.Common.{sym, subst, ◌<◌, arith}
 use Rattle.cpl_ice.specs.declared.cell.IceCell.{IceCell}
 use Rattle.cpl_restart.specs.States.{ocean_cells}
 use Rattle.cpl_slow.specs.Land.{gain_at}

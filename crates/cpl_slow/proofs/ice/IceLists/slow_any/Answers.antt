@@ -1,4 +1,4 @@
-use Rattle.std.proofs.Common.{◌≡◌, ◌≢◌, ◌∙◌, refl, sym, subst, ap, ℕ, ◌<◌, ◌≤◌, List, arith, w64, of_z}
+use Rattle.std.proofs.Common.{◌≡◌, ◌≢◌, ◌∙◌, sym, subst, ap, ℕ, ◌<◌, List, arith, w64, of_z}
 use Rattle.std.specs.Prelude.{ℤ, pos}
 use Rattle.std.proofs.lemmas.Int.{ints}
 use Rattle.cpl_fixed.specs.Amounts.{at}
@@ -6,7 +6,6 @@ use Rattle.cpl_xgrid.specs.declared.grid.Grid.{Grid}
 use Rattle.cpl_xgrid.specs.Grids.{IsGrid}
 use Rattle.cpl_ice.specs.declared.cell.IceCell.{IceCell}
 use Rattle.cpl_restart.specs.States.{categories, ice_cell, ocean_cells}
-use Rattle.cpl_restart.specs.Slow.{returned_if_wet, slowed_if_wet}
 use Rattle.cpl_slow.specs.Ice.{IsCellPut, with_ice}
 use Rattle.cpl_slow.proofs.Same.{dry_back, dry_put, wet_back, wet_slowed}
 use Rattle.cpl_slow.proofs.ice.IceLists.slow_any.Goals as goal

@@ -1,6 +1,5 @@
-use Rattle.std.proofs.Common.{◌≡◌, ◌∙◌, refl, sym, subst, ap, ℕ, ◌*◌, List, [], ◌∷◌, length, arith, w64, to_z, of_z}
+use Rattle.std.proofs.Common.{◌≡◌, ◌∙◌, sym, subst, ap, ℕ, ◌*◌, List, [], ◌∷◌, length, arith, w64, to_z, of_z}
 use Rattle.std.specs.Prelude.{ℤ}
-use Rattle.std.proofs.lemmas.Int.{ints}
 use Rattle.std.proofs.lemmas.List.{with_items_is}
 use Rattle.cpl_ice.specs.declared.parts.Salty.{Salty}
 use Rattle.cpl_ice.specs.Cells.{IsSalty}

@@ -1,12 +1,12 @@
 use Rattle.std.proofs.Common.{◌≡◌, ◌∙◌, sym, subst, ap, ◌≤◌, arith, w64, to_z, of_z}
-use Rattle.std.specs.Prelude.{ℤ, pos, ◌+ℤ◌}
+use Rattle.std.specs.Prelude.{◌+ℤ◌}
 use Rattle.std.proofs.lemmas.Int.{ints}
 use Rattle.cpl_ice.specs.declared.parts.Salty.{Salty}
 use Rattle.cpl_fixed.specs.declared.gain.Gain.{Gain}
 use Rattle.cpl_ice.specs.declared.cell.IceCell.{IceCell}
 use Rattle.cpl_ice.specs.Cells.{IsIceCell, IsSalty}
-use Rattle.cpl_ice.specs.Slow.{CanSlow, heat_of, slowed, water_of}
-use Rattle.cpl_restart.specs.States.{categories, ice_cell, skin_of}
+use Rattle.cpl_ice.specs.Slow.{CanSlow}
+use Rattle.cpl_restart.specs.States.{categories, ice_cell}
 use Rattle.cpl_slow.specs.Ice.{with_ice}
 use Rattle.cpl_slow.proofs.Bare.{bare_returned}
 use Rattle.cpl_slow.proofs.Same.{bare_cell, bare_put, skin_heat_fits, skin_water_fits, with_runoff, with_runoff_is}
