@@ -1,0 +1,72 @@
+-- What flows by the tables is what flows through the elements.
+use Rattle.std.proofs.Common.{◌≡◌, ◌∙◌, refl, sym, ap, ℕ, zero, suc, ◌+◌, ◌*◌, ◌<◌, ◌≤◌, arith, List, length, take}
+use Rattle.std.specs.Prelude.{pos, ◌+ℤ◌}
+use Rattle.std.proofs.lemmas.Int.{ints}
+use Rattle.cpl_fixed.specs.Amounts.{at}
+use Rattle.cpl_fixed.specs.Totals.{total_of}
+use Rattle.cpl_fixed.proofs.ShareLaws.{total_more}
+use Rattle.cpl_flux.specs.Temperatures.{weather}
+use Rattle.cpl_xgrid.specs.declared.parts.Surface.{Surface}
+use Rattle.cpl_xgrid.specs.Rows.{rows_of}
+use Rattle.cpl_restart.specs.States.{air_side}
+use Rattle.cpl_restart.specs.Elements.{air_number, surface_number, element_count, element_area, areas_in, area_before, share_at}
+use Rattle.cpl_restart.specs.FastStep.{Before, albedo, flux, heat_down, water_up, absorbed, surface_part, sun_on}
+use Rattle.cpl_restart.specs.FastLaws.{CanStep}
+use Rattle.cpl_diffusion.proofs.Sums.{sum_to, total_range}
+use Rattle.cpl_laws.specs.Once.{IsNumbered}
+use Rattle.cpl_laws.proofs.Elements.{air_below, surface_below}
+use Rattle.cpl_laws.proofs.Areas.{areas_are}
+use Rattle.cpl_fast.specs.declared.flows.Sky.{Sky}
+use Rattle.cpl_fast.specs.declared.flows.Tables.{Tables}
+use Rattle.cpl_fast.specs.Flows.{area_in, before_in, flow_in, flow_through, part_in, sky_at, sky_of, warm_at}
+use Rattle.cpl_fast.specs.Tables.{warm_part}
+use Rattle.cpl_fast.specs.Filled.{AreTables, AreSkies}
+
+module _ (s : Before) (list : Surface) (tables : Tables) (skies : List Sky) (are : AreTables s list tables) (seen : AreSkies s skies)
+    (is : IsNumbered s.grid) (can : CanStep s) (m k : ℕ) (l : m < length (rows_of s.grid.xgrid list)) (h : k < element_count s.grid list) where
+  -- its area
+  pub area_found : area_in tables m k ≡ element_area s.grid s.mid.whole (record { list = list; row = m }) k
+  area_found = ap (λ (w : ℕ). at tables.areas.items (m * w + k)) are.width ∙ are.areas.each m k l h
+
+  -- its sky
+  pub sky_found : sky_of skies tables m ≡ record { air = air_side s.grid s.mid.whole (air_number s.grid (record { list = list; row = m })); weather = weather s.rates (air_side s.grid s.mid.whole (air_number s.grid (record { list = list; row = m }))); sun = sun_on s (air_number s.grid (record { list = list; row = m })) }
+  sky_found = ap (sky_at skies) (are.links.each m l).air ∙ seen.each (air_number s.grid (record { list = list; row = m })) (air_below s.grid is list m l)
+
+  -- its part
+  pub part_found : part_in tables m k ≡ warm_part s.rates (surface_part s.grid s.mid list (surface_number s.grid (record { list = list; row = m })) k)
+  part_found =
+      (λ i. warm_at tables.parts.items ((are.links.each m l).surface i * are.width i + k))
+      ∙ are.parts (surface_number s.grid (record { list = list; row = m })) k (surface_below s.grid is list m l) h
+
+-- the areas before an element
+module _ (s : Before) (list : Surface) (tables : Tables) (are : AreTables s list tables) (is : IsNumbered s.grid) (can : CanStep s) (m : ℕ) (l : m < length (rows_of s.grid.xgrid list)) where
+  so_far : (k : ℕ) → k ≤ element_count s.grid list → sum_to (area_in tables m) k ≡ total_of (take k (areas_in s.grid s.mid.whole (record { list = list; row = m })))
+  so_far zero h = refl
+  so_far (suc k) h =
+      let areas = areas_in s.grid s.mid.whole (record { list = list; row = m }) in
+      let count = (areas_are s.grid is s.mid.whole can.mid.whole list m l).count in
+      let before = so_far k (omega arith) in
+      let own = ap (λ (w : ℕ). at tables.areas.items (m * w + k)) are.width ∙ are.areas.each m k l (omega arith) in
+      let e : k + 1 ≡ suc k = omega arith in
+      let more = ap (λ (n : ℕ). total_of (take n areas)) (sym e) ∙ total_more areas k (omega arith) in
+      omega (arith, ints, before, own, more)
+
+  pub before_found : (k : ℕ) → k < element_count s.grid list → before_in tables m k ≡ area_before s.grid s.mid.whole (record { list = list; row = m }) k
+  unfolding area_before
+  before_found k h =
+      let start = (are.links.each m l).before in
+      let sum = total_range (area_in tables m) k ∙ so_far k (omega arith) in
+      λ i. start i +ℤ sum i
+
+-- what flows through an element by its table
+module _ (s : Before) (list : Surface) (tables : Tables) (skies : List Sky) (are : AreTables s list tables) (seen : AreSkies s skies)
+    (is : IsNumbered s.grid) (can : CanStep s) (m k : ℕ) (l : m < length (rows_of s.grid.xgrid list)) (h : k < element_count s.grid list) where
+  pub flow_found : flow_in s.rates list (sky_of skies tables m) tables m k
+      ≡ record { heat = heat_down s (record { list = list; row = m }) k; water = water_up s (record { list = list; row = m }) k; sun = absorbed s (record { list = list; row = m }) k; rain = pos 0 }
+  unfolding flow_in flux absorbed share_at
+  flow_found =
+      let sky = sky_found s list tables skies are seen is can m k l h in
+      let part = part_found s list tables skies are seen is can m k l h in
+      let area = area_found s list tables skies are seen is can m k l h in
+      let before = before_found s list tables are is can m l k h in
+      λ i. flow_through s.rates (sky i) (part i) (albedo s.rates list k) (area i) (before i)

@@ -1,0 +1,68 @@
+-- Items of tables, and the areas of elements.
+use Rattle.std.proofs.Common.{◌≡◌, ◌∙◌, sym, ap, ℕ, ◌+◌, ◌*◌, ◌<◌, ◌≢◌, arith, add-one, List, length, map, inl, inr, get_or, get_or-set_same, get_or-set_other, slice_set}
+use Rattle.std.specs.Prelude.{ℤ, ◌+ℤ◌}
+use Rattle.std.specs.List.{range_with_len}
+use Rattle.std.proofs.lemmas.Int.{ints}
+use Rattle.std.proofs.lemmas.Bool.{cases_eq}
+use Rattle.std.proofs.lemmas.Nat.{mul-add-lt}
+use Rattle.std.proofs.lemmas.List.Edits.{fill_by_more}
+use Rattle.cpl_fixed.specs.Totals.{total_of}
+use Rattle.cpl_diffusion.proofs.Sums.{sum_to}
+use Rattle.cpl_laws.proofs.Sums.{total_range}
+use Rattle.cpl_fast.specs.declared.flows.Tables.{Tables}
+use Rattle.cpl_fast.specs.Flows.{area_in, before_in, link_at}
+
+-- the total over one number more
+pub total_more : (f : ℕ → ℤ) (n : ℕ) → total_of (map f (range_with_len 0 (n + 1))) ≡ total_of (map f (range_with_len 0 n)) +ℤ f n
+total_more f n =
+    total_range f (n + 1) ∙ ap (sum_to f) (add-one n) ∙ sym (ap (λ (z : ℤ). z +ℤ f n) (total_range f n))
+
+pub before_none : (tables : Tables) (row : ℕ) → before_in tables row 0 ≡ (link_at tables.links.items row).before
+before_none tables row = omega (arith, ints)
+
+pub before_more : (tables : Tables) (row k : ℕ) → before_in tables row (k + 1) ≡ before_in tables row k +ℤ area_in tables row k
+before_more tables row k = let e = total_more (area_in tables row) k in omega (arith, ints, e)
+
+-- one place more of a row is written, and the places before the row stay
+pub row_more : {X : Type 0} (f : ℕ → X) (xs : List X) (first k : ℕ) (d v : X) → first + k < length xs → ((j : ℕ) → j < k → get_or xs (first + j) d ≡ f j) → v ≡ f k
+    → (j : ℕ) → j < k + 1 → get_or (slice_set xs (first + k) v) (first + j) d ≡ f j
+row_more f xs first k d v within done is j below = elim (cases_eq j k) [
+  | inl e ↦
+      let same : first + j ≡ first + k = omega (arith, e) in
+      ap (λ n. get_or (slice_set xs (first + k) v) n d) same ∙ get_or-set_same xs (first + k) v d within ∙ is ∙ sym (ap f e)
+  | inr ne ↦
+      let other : first + j ≢ first + k = omega (arith, ne) in
+      get_or-set_other xs (first + k) (first + j) v d other ∙ done j (omega arith)
+]
+
+pub others_stay : {X : Type 0} (xs ys : List X) (first k : ℕ) (d v : X) → ((n : ℕ) → n < first → get_or xs n d ≡ get_or ys n d)
+    → (n : ℕ) → n < first → get_or (slice_set xs (first + k) v) n d ≡ get_or ys n d
+others_stay xs ys first k d v same n below =
+    let other : n ≢ first + k = omega arith in
+    get_or-set_other xs (first + k) n v d other ∙ same n below
+
+-- a place of a row stands within the rows
+pub place_within : (rows width row k : ℕ) → row < rows → k < width → row * width + k < rows * width
+place_within rows width row k r l = let e = mul-add-lt row width k rows r l in omega (arith, e)
+
+-- the places of a row stand before those of the next
+pub place_before : (width row k next : ℕ) → row < next → k < width → row * width + k < next * width
+place_before width row k next r l = place_within next width row k r l
+
+-- the places of one row more are done, and those before it stay
+pub rows_more : {X : Type 0} (f : ℕ → ℕ → X) (now next : List X) (width row : ℕ) (d : X)
+    → ((r k : ℕ) → r < row → k < width → get_or now (r * width + k) d ≡ f r k)
+    → ((k : ℕ) → k < width → get_or next (row * width + k) d ≡ f row k)
+    → ((n : ℕ) → n < row * width → get_or next n d ≡ get_or now n d)
+    → (r k : ℕ) → r < row + 1 → k < width → get_or next (r * width + k) d ≡ f r k
+rows_more f now next width row d done here stay r k below l = elim (cases_eq r row) [
+  | inl e ↦ (λ i. get_or next (e i * width + k) d) ∙ here k l ∙ (λ i. f (sym e i) k)
+  | inr ne ↦
+      let before : r < row = omega (arith, ne) in
+      stay (r * width + k) (place_before width r k row before l) ∙ done r k before l
+]
+
+-- once f n is written at n, all places up to n are done
+pub written : {X : Type 0} (f : ℕ → X) (xs : List X) (n : ℕ) (d v : X) → n < length xs → ((k : ℕ) → k < n → get_or xs k d ≡ f k) → v ≡ f n
+    → (k : ℕ) → k < n + 1 → get_or (slice_set xs n v) k d ≡ f k
+written f xs n d v l done e k below = ap (λ w. get_or (slice_set xs n w) k d) e ∙ fill_by_more f xs n d l done k below

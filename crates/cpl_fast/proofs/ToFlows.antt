@@ -1,0 +1,282 @@
+-- What flows through the elements and rains on them by the tables is that of the definitions.
+use Rattle.std.proofs.Common.{◌≡◌, ◌∙◌, sym, ap, subst, Bool, true, false, ℕ, ◌+◌, ◌*◌, ◌<◌, ◌≤◌, arith, List, length, cond, min}
+use Rattle.std.specs.Prelude.{ℤ, pos, ◌+ℤ◌, ◌-ℤ◌, ◌*ℤ◌, ◌≤ℤ◌}
+use Rattle.std.specs.List.{range_with_len}
+use Rattle.std.proofs.lemmas.Int.{ints}
+use Rattle.std.proofs.lemmas.Nat.{mul-add-lt}
+use Rattle.std.proofs.lemmas.List.FromFn.{length-map-range_with_len}
+use Rattle.cpl_fixed.specs.Amounts.{IsAmount, at}
+use Rattle.cpl_fixed.specs.declared.limits.TheConstants.{VAPOUR_HEAT, WATER_HEAT}
+use Rattle.cpl_fixed.specs.declared.rates.Rates.{Rates}
+use Rattle.cpl_flux.specs.declared.parts.AirSide.{AirSide}
+use Rattle.cpl_flux.specs.declared.parts.Part.{Part}
+use Rattle.cpl_flux.specs.declared.parts.Kind.{Kind}
+use Rattle.cpl_flux.specs.declared.parts.Kind.TheVariants as kind
+use Rattle.cpl_flux.specs.declared.temperatures.TheConstants.{FREEZING, HOTTEST}
+use Rattle.cpl_flux.specs.Elements.{IsElement, IsPart}
+use Rattle.cpl_flux.specs.Temperatures.{temperature, temperature_by, weather}
+use Rattle.cpl_xgrid.specs.Rows.{refs_to, rows_of}
+use Rattle.cpl_xgrid.specs.declared.grid.Grid.{Grid}
+use Rattle.cpl_xgrid.specs.declared.parts.XRef.{XRef}
+use Rattle.cpl_xgrid.specs.declared.parts.Surface.{Surface}
+use Rattle.cpl_xgrid.specs.declared.parts.Surface.TheVariants.{Land, Ocean}
+use Rattle.cpl_restart.specs.States.{air_cells, air_side}
+use Rattle.cpl_restart.specs.Elements.{air_number, area_before, element_area, element_count, over_all, over_elements, surface_number, share_at}
+use Rattle.cpl_restart.specs.FastStep.{Before, absorbed, entered, heat_down, heat_given, rain, rain_on, sun_on, surface_part, water_given, water_up, for_each}
+use Rattle.cpl_restart.specs.FastLaws.{IsPlaced}
+use Rattle.cpl_laws.proofs.Elements.{air_below, surface_below}
+use Rattle.cpl_laws.proofs.FastSums.{air_sum, all_water_with, all_with, given_heat, given_water, heat_with, over_rows, water_with}
+use Rattle.cpl_laws.proofs.Held.{read_cell}
+use Rattle.cpl_laws.proofs.Once.{refs_total}
+use Rattle.cpl_laws.specs.Once.{IsNumbered}
+use Rattle.cpl_fast.specs.declared.flows.Flow.{Flow}
+use Rattle.cpl_fast.specs.declared.flows.Sky.{Sky}
+use Rattle.cpl_fast.specs.declared.flows.Tables.{Tables}
+use Rattle.cpl_fast.specs.declared.flows.WarmPart.{WarmPart}
+use Rattle.cpl_fast.specs.declared.sums.Sums.{Sums}
+use Rattle.cpl_fast.specs.Filled.{AreSkies, AreTables}
+use Rattle.cpl_fast.specs.Flows.{CanFlow, IsSky, area_in, before_in, flow_at, flow_in, link_at, part_in, sky_at, sky_of}
+use Rattle.cpl_fast.specs.Rain.{CanRainOn, in_list, rained_on, with_share}
+use Rattle.cpl_fast.specs.Stages.{AreFlows, IsLawful, dry, flow_of, given}
+use Rattle.cpl_fast.specs.Sums.{SumsAre, net_heat, taken}
+use Rattle.cpl_fast.specs.Tables.{warm_part}
+use Rattle.cpl_fast.proofs.Elementwise.{list_is}
+use Rattle.cpl_fast.proofs.Found.{area_found, before_found, flow_found, part_found, sky_found}
+use Rattle.cpl_fast.proofs.InRange.{air_in_range, part_in_range}
+
+-- TEMPERATURES
+
+coolest : (b : Bool) (t : ℕ) → cond b FREEZING (min t HOTTEST) ≤ HOTTEST
+coolest true t = omega arith
+coolest false t = omega arith
+
+temperature_most : (heat capacity : ℕ) → temperature heat capacity ≤ HOTTEST
+temperature_most heat capacity = coolest _ _
+
+by_kind : (rates : Rates) (part : Part) (k : Kind) → temperature_by rates part k ≤ HOTTEST
+by_kind rates part kind.Land = temperature_most _ _
+by_kind rates part kind.Water = temperature_most _ _
+by_kind rates part kind.Ice = omega arith
+
+-- ROWS
+
+-- sums over all rows of a list
+module _ (s : Before) (is : IsNumbered s.grid) (list : Surface) (wet : XRef → ℕ → ℤ) where
+  over_all_rows : (f : XRef → ℕ → ℤ) → over_all s.grid f (refs_to list (range_with_len 0 (length (rows_of s.grid.xgrid list)))) ≡ over_rows s.grid list f
+  over_all_rows f = refs_total (over_elements s.grid f) list (range_with_len 0 (length (rows_of s.grid.xgrid list)))
+
+  pub rows_with : over_rows s.grid list (heat_with s wet) ≡ over_rows s.grid list (heat_down s) -ℤ (VAPOUR_HEAT *ℤ over_rows s.grid list (water_up s)) +ℤ (WATER_HEAT *ℤ over_rows s.grid list wet)
+  rows_with =
+      let all = all_with s is wet (refs_to list (range_with_len 0 (length (rows_of s.grid.xgrid list)))) in
+      let a = over_all_rows (heat_with s wet) in
+      let b = over_all_rows (heat_down s) in
+      let c = over_all_rows (water_up s) in
+      let d = over_all_rows wet in
+      sym a ∙ all ∙ (λ i. b i -ℤ (VAPOUR_HEAT *ℤ c i) +ℤ (WATER_HEAT *ℤ d i))
+
+  pub rows_water_with : over_rows s.grid list (water_with s wet) ≡ over_rows s.grid list wet -ℤ over_rows s.grid list (water_up s)
+  rows_water_with =
+      let all = all_water_with s is wet (refs_to list (range_with_len 0 (length (rows_of s.grid.xgrid list)))) in
+      let a = over_all_rows (water_with s wet) in
+      let c = over_all_rows (water_up s) in
+      let d = over_all_rows wet in
+      sym a ∙ all ∙ (λ i. d i -ℤ c i)
+
+-- LISTS
+
+module _ (s : Before) (lawful : IsLawful s) (list : Surface) (tables : Tables) (skies : List Sky) (are : AreTables s list tables) (seen : AreSkies s skies) where
+  abbrev rows : ℕ
+  rows = length (rows_of s.grid.xgrid list)
+
+  abbrev width : ℕ
+  width = element_count s.grid list
+
+  rows_most : (l : Surface) → length (rows_of s.grid.xgrid l) ≤ 1_048_576
+  rows_most Land = let few = lawful.numbers.rules.rows.few in omega (arith, few)
+  rows_most Ocean = let few = lawful.numbers.rules.rows.few in omega (arith, few)
+
+  abbrev ref : ℕ → XRef
+  ref m = record { list = list; row = m }
+
+  -- what stands in the tables for an element
+  module _ (m k : ℕ) (l : m < rows) (h : k < width) where
+    abbrev air_of : AirSide
+    air_of = air_side s.grid s.mid.whole (air_number s.grid (ref m))
+
+    sky_is : sky_of skies tables m ≡ record { air = air_of; weather = weather s.rates air_of; sun = sun_on s (air_number s.grid (ref m)) }
+    sky_is = sky_found s list tables skies are seen lawful.numbers lawful.can m k l h
+
+    part_is : part_in tables m k ≡ warm_part s.rates (surface_part s.grid s.mid list (surface_number s.grid (ref m)) k)
+    part_is = part_found s list tables skies are seen lawful.numbers lawful.can m k l h
+
+    area_is : area_in tables m k ≡ element_area s.grid s.mid.whole (ref m) k
+    area_is = area_found s list tables skies are seen lawful.numbers lawful.can m k l h
+
+    before_is : before_in tables m k ≡ area_before s.grid s.mid.whole (ref m) k
+    before_is = before_found s list tables are lawful.numbers lawful.can m l k h
+
+    placed : IsPlaced s (ref m) k
+    placed = lawful.keeps.placed (ref m) k (record { row = l; part = h })
+
+    below : air_number s.grid (ref m) < air_cells s.grid
+    below = air_below s.grid lawful.numbers list m l
+
+    sky_in_range : IsSky (sky_of skies tables m)
+    sky_in_range =
+        subst IsSky (sym sky_is) (record {
+          air = air_in_range s lawful.numbers lawful.can.air lawful.mates lawful.can (air_number s.grid (ref m)) below;
+          temperature = temperature_most _ _;
+          sun = lawful.keeps.sun (air_number s.grid (ref m)) below;
+        })
+
+    place_is : (link_at tables.links.items m).surface * tables.width + k < length tables.parts.items
+    place_is =
+        let e = (are.links.each m l).surface in
+        let w = are.width in
+        let here = surface_below s.grid lawful.numbers list m l in
+        let inside = mul-add-lt (surface_number s.grid (ref m)) width k _ here h in
+        let same : (link_at tables.links.items m).surface * tables.width + k ≡ surface_number s.grid (ref m) * width + k = (λ i. e i * w i + k) in
+        let count = are.count in
+        omega (arith, same, inside, count)
+
+    least : pos 0 ≤ℤ area_in tables m k
+    least = let e = area_is in let p = placed.element.least in omega (arith, ints, e, p)
+
+    natural : pos 0 ≤ℤ before_in tables m k
+    natural = let e = before_is in let p = placed.before in omega (arith, ints, e, p)
+
+    inside : (before_in tables m k +ℤ area_in tables m k) ≤ℤ (sky_of skies tables m).air.area
+    inside =
+        let a = area_is in
+        let b = before_is in
+        let p = placed.within in
+        let e : (sky_of skies tables m).air.area ≡ at s.grid.air.area (air_number s.grid (ref m)) = ap (λ (sky : Sky). sky.air.area) sky_is in
+        omega (arith, ints, a, b, p, e)
+
+    can_flow_here : CanFlow (sky_of skies tables m) tables m k
+    can_flow_here =
+        let n = surface_number s.grid (ref m) in
+        record {
+          seen = sky_in_range;
+          place = place_is;
+          part = subst (λ (w : WarmPart). IsPart w.part) (sym part_is) (part_in_range s lawful.numbers lawful.can.air lawful.mates lawful.can list n k (surface_below s.grid lawful.numbers list m l) h);
+          temperature = subst (λ (w : WarmPart). w.temperature ≤ HOTTEST) (sym part_is) (by_kind s.rates (surface_part s.grid s.mid list n k) (surface_part s.grid s.mid list n k).kind);
+          element =
+              subst (λ (sky : Sky). IsElement sky.air (part_in tables m k).part (area_in tables m k)) (sym sky_is)
+              (subst (λ (w : WarmPart). IsElement air_of w.part (area_in tables m k)) (sym part_is)
+              (subst (λ (b : ℤ). IsElement air_of (surface_part s.grid s.mid list n k) b) (sym area_is) placed.element));
+          before = natural;
+          within = inside;
+        }
+
+    can_rain_here : CanRainOn (sky_of skies tables m).air.area tables m k
+    can_rain_here = record {
+      range = sky_in_range.air.area;
+      least = least;
+      before = natural;
+      within = inside;
+    }
+
+  -- THE FLOWS OF ALL ELEMENTS
+
+  pub airs : (m : ℕ) → m < length tables.links.items → (link_at tables.links.items m).air < length skies
+  airs m l =
+      let count = are.links.count in
+      let h : m < rows = omega (arith, l, count) in
+      let e = (are.links.each m h).air in
+      let below = air_below s.grid lawful.numbers list m h in
+      let long = seen.count in
+      omega (arith, e, below, long)
+
+  row_below : (m : ℕ) → m < length tables.links.items → m < rows
+  row_below m l = let count = are.links.count in omega (arith, l, count)
+
+  part_below : (k : ℕ) → k < tables.width → k < width
+  part_below k h = let w = are.width in omega (arith, h, w)
+
+  row_above : (m : ℕ) → m < rows → m < length tables.links.items
+  row_above m l = let count = are.links.count in omega (arith, l, count)
+
+  part_above : (k : ℕ) → k < width → k < tables.width
+  part_above k h = let w = are.width in omega (arith, h, w)
+
+  pub can_flow : (m k : ℕ) → m < length tables.links.items → k < tables.width → CanFlow (sky_of skies tables m) tables m k
+  can_flow m k l h = can_flow_here m k (row_below m l) (part_below k h)
+
+  pub few : length tables.links.items ≤ 1_048_576
+  few = let e = are.links.count in let most = rows_most list in omega (arith, e, most)
+
+  pub flows_are : (flows : List Flow) → length flows ≡ rows * width
+      → ((m k : ℕ) → m < length tables.links.items → k < tables.width → flow_at flows (m * tables.width + k) ≡ flow_in s.rates list (sky_of skies tables m) tables m k)
+      → AreFlows s dry list flows
+  flows_are flows count value = record {
+    count = count;
+    each = λ m k l h.
+        ap (λ (w : ℕ). flow_at flows (m * w + k)) (sym are.width) ∙ value m k (row_above m l) (part_above k h)
+        ∙ flow_found s list tables skies are seen lawful.numbers lawful.can m k l h;
+  }
+
+  -- RAIN
+
+  module _ (rains : List ℤ) (rains_are : rains ≡ for_each (air_cells s.grid) (rain s)) where
+    rain_at : (n : ℕ) → n < air_cells s.grid → at rains n ≡ rain s n
+    rain_at n l = ap (λ (xs : List ℤ). at xs n) rains_are ∙ read_cell (rain s) (air_cells s.grid) n l
+
+    rain_in_range : (n : ℕ) → n < air_cells s.grid → IsAmount (rain s n)
+    unfolding rain
+    rain_in_range n l = let most = lawful.keeps.vapour_before_rain n l in (omega (arith, ints), omega (arith, ints, most.0, most.1))
+
+    pub rains_in_range : (n : ℕ) → n < length skies → IsAmount (at rains n)
+    rains_in_range n l =
+        let h : n < air_cells s.grid = let e = seen.count in omega (arith, l, e) in
+        subst IsAmount (sym (rain_at n h)) (rain_in_range n h)
+
+    pub can_rain_on : (m k : ℕ) → m < length tables.links.items → k < tables.width → CanRainOn (sky_at skies (link_at tables.links.items m).air).air.area tables m k
+    can_rain_on m k l h = can_rain_here m k (row_below m l) (part_below k h)
+
+    wet_is : (flows : List Flow) → AreFlows s dry list flows → (m k : ℕ) → m < rows → k < width
+        → rained_on (at rains (link_at tables.links.items m).air) (sky_at skies (link_at tables.links.items m).air).air.area tables flows m k ≡ flow_of s (rain_on s) (ref m) k
+    unfolding rained_on rain_on share_at
+    wet_is flows have m k l h =
+        let n = air_number s.grid (ref m) in
+        let link = (are.links.each m l).air in
+        let flow = ap (λ (w : ℕ). flow_at flows (m * w + k)) are.width ∙ have.each m k l h in
+        let water = ap (at rains) link ∙ rain_at n (below m k l h) in
+        let before = before_is m k l h in
+        let area = area_is m k l h in
+        let whole = ap (λ (sky : Sky). sky.air.area) (sky_is m k l h) in
+        λ i. with_share (flow i) (water i) (before i) (area i) (whole i)
+
+    pub wet_are : (flows new : List Flow) → AreFlows s dry list flows → length new ≡ length flows
+        → ((m k : ℕ) → m < length tables.links.items → k < tables.width
+        → flow_at new (m * tables.width + k) ≡ rained_on (at rains (link_at tables.links.items m).air) (sky_at skies (link_at tables.links.items m).air).air.area tables flows m k)
+        → AreFlows s (rain_on s) list new
+    wet_are flows new have count value = record {
+      count = count ∙ have.count;
+      each = λ m k l h. ap (λ (w : ℕ). flow_at new (m * w + k)) (sym are.width) ∙ value m k (row_above m l) (part_above k h) ∙ wet_is flows have m k l h;
+    }
+
+  -- WHAT ALL ELEMENTS OF THE LIST HAVE
+
+  over_is : (flows : List Flow) (number : Flow → ℤ) → AreFlows s (rain_on s) list flows → in_list flows tables.width (length tables.links.items) number ≡ over_rows s.grid list (λ ref k. number (flow_of s (rain_on s) ref k))
+  over_is flows number have =
+      (λ i. in_list flows (are.width i) (are.links.count i) number) ∙ list_is s (rain_on s) number list flows have
+
+  pub sun_is : (flows : List Flow) (sums : Sums) → AreFlows s (rain_on s) list flows → SumsAre sums (in_list flows tables.width (length tables.links.items)) → sums.sun ≡ over_rows s.grid list (absorbed s)
+  sun_is flows sums have of = of.sun ∙ over_is flows (λ (flow : Flow). flow.sun) have
+
+  pub given_is : (flows : List Flow) (sums : Sums) → AreFlows s (rain_on s) list flows → SumsAre sums (in_list flows tables.width (length tables.links.items)) → taken sums ≡ given s list
+  given_is flows sums have of =
+      let heat = of.heat ∙ over_is flows (λ (flow : Flow). flow.heat) have in
+      let water = of.water ∙ over_is flows (λ (flow : Flow). flow.water) have in
+      let rain = of.rain ∙ over_is flows (λ (flow : Flow). flow.rain) have in
+      let a = given_heat s lawful.numbers list ∙ rows_with s lawful.numbers list (rain_on s) in
+      let b = given_water s lawful.numbers list ∙ rows_water_with s lawful.numbers list (rain_on s) in
+      let h : net_heat sums +ℤ (WATER_HEAT *ℤ sums.rain) ≡ heat_given s list = omega (arith, ints, heat, water, rain, a) in
+      let w : sums.rain -ℤ sums.water ≡ water_given s list = omega (arith, ints, water, rain, b) in
+      λ i. record { heat = h i; water = w i }
+
+-- the sun of both lists is what entered
+pub entered_is : (s : Before) → IsLawful s → entered s ≡ over_rows s.grid Land (absorbed s) +ℤ over_rows s.grid Ocean (absorbed s)
+unfolding entered
+entered_is s lawful = air_sum s.grid lawful.numbers (absorbed s)

@@ -1,0 +1,9 @@
+pub mod Flows
+pub mod Sums
+pub mod Air
+pub mod Tables
+pub mod Filled
+pub mod Rain
+pub mod Rooms
+pub mod Surfaces
+pub mod Stages

@@ -1,0 +1,64 @@
+-- Room for fast steps, and what a fast step goes by.
+use Rattle.std.specs.Prelude.{◌≡◌, ℕ, ◌+◌, ◌*◌, ◌<◌, List, length, ℤ}
+use Rattle.cpl_fixed.specs.Amounts.{at}
+use Rattle.cpl_fixed.specs.declared.rates.Rates.{Rates}
+use Rattle.cpl_diffusion.specs.Steps.{AreWays, IsRoom}
+use Rattle.cpl_mosaic.specs.Contacts.{cells_of}
+use Rattle.cpl_xgrid.specs.declared.grid.Grid.{Grid}
+use Rattle.cpl_xgrid.specs.declared.parts.Surface.{Surface}
+use Rattle.cpl_xgrid.specs.declared.parts.Surface.TheVariants.{Land, Ocean}
+use Rattle.cpl_xgrid.specs.Rows.{rows_of}
+use Rattle.cpl_restart.specs.declared.whole.Whole.{Whole}
+use Rattle.cpl_restart.specs.declared.whole.Mid.{Mid}
+use Rattle.cpl_restart.specs.States.{air_cells, land_cells, ocean_cells, categories}
+use Rattle.cpl_restart.specs.Elements.{element_count, part_area, tiles_of}
+use Rattle.cpl_restart.specs.FastStep.{Before}
+use Rattle.cpl_fast.specs.declared.flows.Tables.{Tables}
+use Rattle.cpl_fast.specs.declared.room.FastRoom.{FastRoom}
+use Rattle.cpl_fast.specs.Filled.{AreElementAreas}
+use Rattle.cpl_fast.specs.Tables.{AreLinks}
+
+-- what a fast step goes by, from its parts
+abbrev pub before_step : Grid → Rates → (month : ℕ) → Mid → Before
+before_step grid rates month mid = record { grid = grid; rates = rates; month = month; mid = mid }
+
+-- the tables of a list: its links, and room for the areas of its elements and for the parts of its surface
+pub record HasTables (grid : Grid) (list : Surface) (tables : Tables) : Type 0 where
+  pub width : tables.width ≡ element_count grid list
+  pub links : AreLinks grid list tables.links.items
+  pub areas : length tables.areas.items ≡ length (rows_of grid.xgrid list) * element_count grid list
+  pub parts : length tables.parts.items ≡ cells_of (tiles_of grid list) * element_count grid list
+
+-- room for the fast steps of a grid: the faces of the air and the links of the rows, and a number for whatever a step writes
+pub record IsFastRoom (grid : Grid) (room : FastRoom) : Type 0 where
+  pub ways : AreWays grid.air room.ways
+  pub diffusion : IsRoom (air_cells grid) room.diffusion
+  pub land : HasTables grid Land room.land
+  pub ocean : HasTables grid Ocean room.ocean
+  pub land_area : length room.land_area.items ≡ land_cells grid
+  pub ocean_area : length room.ocean_area.items ≡ ocean_cells grid * element_count grid Ocean
+  pub land_flows : length room.land_flows.items ≡ length (rows_of grid.xgrid Land)
+  pub ocean_flows : length room.ocean_flows.items ≡ length (rows_of grid.xgrid Ocean) * element_count grid Ocean
+  pub skies : length room.skies.items ≡ air_cells grid
+  pub rain : length room.rain.items ≡ air_cells grid
+  pub air_heat : length room.air_heat.items ≡ air_cells grid
+  pub air_vapour : length room.air_vapour.items ≡ air_cells grid
+  pub land_heat : length room.land_heat.items ≡ land_cells grid
+  pub land_water : length room.land_water.items ≡ land_cells grid
+  pub ice_heat : length room.ice_heat.items ≡ categories grid * ocean_cells grid
+  pub skin_water : length room.skin_water.items ≡ ocean_cells grid
+  pub skin_heat : length room.skin_heat.items ≡ ocean_cells grid
+
+-- the areas of the parts of a surface, cell by cell
+pub record ArePartAreas (grid : Grid) (whole : Whole) (list : Surface) (areas : List ℤ) : Type 0 where
+  pub count : length areas ≡ cells_of (tiles_of grid list) * element_count grid list
+  pub each : (n k : ℕ) → n < cells_of (tiles_of grid list) → k < element_count grid list
+      → at areas (n * element_count grid list + k) ≡ part_area grid whole list n k
+
+-- room in which the areas of a state's elements and parts stand; they depend on the state's parts alone
+pub record IsDivided (grid : Grid) (whole : Whole) (fast : FastRoom) : Type 0 where
+  pub room : IsFastRoom grid fast
+  pub land : AreElementAreas grid whole Land fast.land.areas.items
+  pub ocean : AreElementAreas grid whole Ocean fast.ocean.areas.items
+  pub land_area : ArePartAreas grid whole Land fast.land_area.items
+  pub ocean_area : ArePartAreas grid whole Ocean fast.ocean_area.items

@@ -1,0 +1,106 @@
+-- Sums of flows over elements.
+use Rattle.std.specs.Prelude.{◌≡◌, ℕ, ◌+◌, ◌*◌, ◌≤◌, ◌^◌, List, map, length, ℤ, pos, neg_ℤ, ◌+ℤ◌, ◌-ℤ◌, ◌*ℤ◌, ◌≤ℤ◌, slice_index_or}
+use Rattle.std.specs.List.{range_with_len}
+use Rattle.cpl_fixed.specs.Totals.{total_of}
+use Rattle.cpl_fixed.specs.declared.limits.TheConstants.{VAPOUR_HEAT, WATER_HEAT}
+use Rattle.cpl_xgrid.specs.declared.parts.XRef.{XRef}
+use Rattle.cpl_xgrid.specs.declared.parts.Surface.{Surface}
+use Rattle.cpl_xgrid.specs.declared.parts.Surface.TheVariants.{Land, Ocean}
+use Rattle.cpl_fast.specs.declared.flows.Flow.{Flow}
+use Rattle.cpl_fast.specs.declared.sums.Sums.{Sums}
+use Rattle.cpl_fast.specs.declared.sums.After.{After}
+use Rattle.cpl_fast.specs.declared.sums.Taken.{Taken}
+use Rattle.cpl_fast.specs.Flows.{flow_at}
+
+abbrev pub none : Sums
+none = record { heat = pos 0; water = pos 0; sun = pos 0; rain = pos 0 }
+
+abbrev pub of_flow : Flow → Sums
+of_flow flow = record { heat = flow.heat; water = flow.water; sun = flow.sun; rain = flow.rain }
+
+abbrev pub joined : Sums → Sums → Sums
+joined a b = record { heat = a.heat +ℤ b.heat; water = a.water +ℤ b.water; sun = a.sun +ℤ b.sun; rain = a.rain +ℤ b.rain }
+
+-- a sum of at most n numbers of 64 bits
+abbrev pub IsSmall : ℕ → ℤ → Type 0
+IsSmall n x = (neg_ℤ (pos (n * 2 ^ 63)) ≤ℤ x) × (x ≤ℤ pos (n * 2 ^ 63))
+
+pub record AreSmall (n : ℕ) (sums : Sums) : Type 0 where
+  pub heat : IsSmall n sums.heat
+  pub water : IsSmall n sums.water
+  pub sun : IsSmall n sums.sun
+  pub rain : IsSmall n sums.rain
+
+-- the sums are those that `total` makes of each number of a flow
+pub record SumsAre (sums : Sums) (total : (Flow → ℤ) → ℤ) : Type 0 where
+  pub heat : sums.heat ≡ total (λ (flow : Flow). flow.heat)
+  pub water : sums.water ≡ total (λ (flow : Flow). flow.water)
+  pub sun : sums.sun ≡ total (λ (flow : Flow). flow.sun)
+  pub rain : sums.rain ≡ total (λ (flow : Flow). flow.rain)
+
+-- over the elements of a row
+abbrev pub in_row : List Flow → (width row : ℕ) → (Flow → ℤ) → ℤ
+in_row flows width row number = total_of (map (λ k. number (flow_at flows (row * width + k))) (range_with_len 0 width))
+
+-- over the elements of exchange cells in part k
+abbrev pub in_part : List Flow → (width k : ℕ) → List XRef → (Flow → ℤ) → ℤ
+in_part flows width k refs number = total_of (map (λ (ref : XRef). number (flow_at flows (ref.row * width + k))) refs)
+
+-- over all elements of an exchange cell of a list
+abbrev pub in_list : (land ocean : List Flow) → ℕ → Surface → (row : ℕ) → (Flow → ℤ) → ℤ
+in_list land ocean width Land row number = in_row land 1 row number
+in_list land ocean width Ocean row number = in_row ocean width row number
+
+-- over all elements of exchange cells
+abbrev pub in_rows : (land ocean : List Flow) → ℕ → List XRef → (Flow → ℤ) → ℤ
+in_rows land ocean width refs number = total_of (map (λ (ref : XRef). in_list land ocean width ref.list ref.row number) refs)
+
+-- the elements of an exchange cell stand in the table
+abbrev pub reaches : List Flow → ℕ → XRef → Type 0
+reaches flows width ref = ref.row * width + width ≤ length flows
+
+abbrev pub within_list : (land ocean : List Flow) → ℕ → Surface → (row : ℕ) → Type 0
+within_list land ocean width Land row = row * 1 + 1 ≤ length land
+within_list land ocean width Ocean row = row * width + width ≤ length ocean
+
+abbrev pub within : (land ocean : List Flow) → ℕ → XRef → Type 0
+within land ocean width ref = within_list land ocean width ref.list ref.row
+
+-- the heat that flows to the surface, less that of the vapour
+abbrev pub net_heat : Sums → ℤ
+net_heat sums = sums.heat -ℤ (VAPOUR_HEAT *ℤ sums.water)
+
+-- what elements take from the air beside the sun
+abbrev pub taken : Sums → Taken
+taken sums = record { heat = net_heat sums +ℤ (WATER_HEAT *ℤ sums.rain); water = sums.rain -ℤ sums.water }
+
+-- with rain, and with its heat
+abbrev pub with_rain : Taken → ℤ → Taken
+with_rain taken rain = record { heat = taken.heat +ℤ (WATER_HEAT *ℤ rain); water = taken.water +ℤ rain }
+
+abbrev pub nothing : Taken
+nothing = record { heat = pos 0; water = pos 0 }
+
+abbrev pub both_taken : Taken → Taken → Taken
+both_taken a b = record { heat = a.heat +ℤ b.heat; water = a.water +ℤ b.water }
+
+pub record IsSmallTaken (n : ℕ) (taken : Taken) : Type 0 where
+  pub heat : IsSmall n taken.heat
+  pub water : IsSmall n taken.water
+
+-- a cell that takes this from the air and absorbs this sun
+abbrev pub after : (heat water : ℤ) → Taken → (sun : ℤ) → After
+after heat water taken sun = record { heat = heat +ℤ (taken.heat +ℤ sun); water = water +ℤ taken.water; taken = taken }
+
+-- the sums over the elements of exchange cells in part k
+unfoldable pub sums_in : List Flow → (width k : ℕ) → List XRef → Sums
+sums_in flows width k refs = record {
+  heat = in_part flows width k refs (λ (flow : Flow). flow.heat);
+  water = in_part flows width k refs (λ (flow : Flow). flow.water);
+  sun = in_part flows width k refs (λ (flow : Flow). flow.sun);
+  rain = in_part flows width k refs (λ (flow : Flow). flow.rain);
+}
+
+-- an exchange cell of a list of them
+abbrev pub ref_at : List XRef → ℕ → XRef
+ref_at refs n = slice_index_or refs n (record { list = Land; row = 0 })

@@ -1,0 +1,95 @@
+-- Cells of the land and of the ocean's mosaic by the flows of their elements.
+use Rattle.std.specs.Prelude.{ℕ, ◌+◌, ◌*◌, ◌≤◌, List, map, length, ℤ, pos, ◌+ℤ◌, All}
+use Rattle.std.specs.List.{range_with_len}
+use Rattle.cpl_fixed.specs.Amounts.{IsAmount, at}
+use Rattle.cpl_fixed.specs.Totals.{total_of}
+use Rattle.cpl_fixed.specs.declared.limits.TheConstants.{MOST_EXCHANGE_CELLS}
+use Rattle.cpl_mosaic.specs.declared.parts.Tile.{Tile}
+use Rattle.cpl_mosaic.specs.Cells.{cell_of}
+use Rattle.cpl_xgrid.specs.Lists.{XGridLists}
+use Rattle.cpl_xgrid.specs.Rows.{refs_of_other, rows_of}
+use Rattle.cpl_xgrid.specs.declared.parts.XRef.{XRef}
+use Rattle.cpl_xgrid.specs.declared.parts.Surface.{Surface}
+use Rattle.cpl_xgrid.specs.declared.parts.Surface.TheVariants.{Land, Ocean}
+use Rattle.cpl_fast.specs.declared.flows.Flow.{Flow}
+use Rattle.cpl_fast.specs.declared.ocean.IceTaken.{IceTaken}
+use Rattle.cpl_fast.specs.declared.sums.Sums.{Sums}
+use Rattle.cpl_fast.specs.declared.sums.After.{After}
+use Rattle.cpl_fast.specs.declared.sums.Taken.{Taken}
+use Rattle.cpl_fast.specs.Sums.{after, reaches, sums_in, taken, with_rain}
+
+-- the exchange cells of cell n of a surface
+abbrev pub tiles_on : XGridLists → Surface → List Tile
+tiles_on xgrid Land = xgrid.land
+tiles_on xgrid Ocean = xgrid.ocean
+
+abbrev pub refs_on : XGridLists → Surface → ℕ → List XRef
+refs_on xgrid list n = refs_of_other list (rows_of xgrid list) (cell_of (tiles_on xgrid list) n)
+
+-- their elements stand in the table
+pub record AreRowsOf (list : Surface) (xgrid : XGridLists) (flows : List Flow) (width n : ℕ) : Type 0 where
+  pub few : length (refs_on xgrid list n) ≤ MOST_EXCHANGE_CELLS
+  pub rows : All (reaches flows width) (refs_on xgrid list n)
+
+-- LAND
+
+unfoldable pub land_sums : XGridLists → List Flow → ℕ → Sums
+land_sums xgrid flows n = sums_in flows 1 0 (refs_on xgrid Land n)
+
+-- cell n after the step, from this heat and this water
+unfoldable pub land_at : XGridLists → List Flow → (heat water : ℤ) → ℕ → After
+land_at xgrid flows heat water n = after heat water (taken (land_sums xgrid flows n)) (land_sums xgrid flows n).sun
+
+-- a cell that stays in range
+pub record CanGainLand (xgrid : XGridLists) (flows : List Flow) (heat water : ℤ) (n : ℕ) : Type 0 where
+  pub rows : AreRowsOf Land xgrid flows 1 n
+  pub heat_range : IsAmount (after heat water (taken (land_sums xgrid flows n)) (land_sums xgrid flows n).sun).heat
+  pub water_range : IsAmount (after heat water (taken (land_sums xgrid flows n)) (land_sums xgrid flows n).sun).water
+
+-- what the first cells take
+abbrev pub taken_to : ℕ → (ℕ → Taken) → Taken
+taken_to n taken_by = record {
+  heat = total_of (map (λ k. (taken_by k).heat) (range_with_len 0 n));
+  water = total_of (map (λ k. (taken_by k).water) (range_with_len 0 n));
+}
+
+-- ICE
+
+-- the sums of part k of cell n
+unfoldable pub ocean_sums : XGridLists → List Flow → (width n k : ℕ) → Sums
+ocean_sums xgrid flows width n k = sums_in flows width k (refs_on xgrid Ocean n)
+
+-- what a category gains, the sun with it
+abbrev pub category_gain : XGridLists → List Flow → (categories n k : ℕ) → ℤ
+category_gain xgrid flows categories n k =
+    (ocean_sums xgrid flows (categories + 1) n (k + 1)).heat +ℤ (ocean_sums xgrid flows (categories + 1) n (k + 1)).sun
+
+pub record CanGainIce (xgrid : XGridLists) (flows : List Flow) (categories : ℕ) (heat : List ℤ) (n k : ℕ) : Type 0 where
+  pub range : IsAmount (at heat (n * categories + k) +ℤ category_gain xgrid flows categories n k)
+
+-- the rain on all categories of a cell, and the heat that they take
+unfoldable pub ice_of : XGridLists → List Flow → (categories n : ℕ) → IceTaken
+ice_of xgrid flows categories n = record {
+  rain = total_of (map (λ k. (ocean_sums xgrid flows (categories + 1) n (k + 1)).rain) (range_with_len 0 categories));
+  heat = total_of (map (λ k. (ocean_sums xgrid flows (categories + 1) n (k + 1)).heat) (range_with_len 0 categories));
+}
+
+-- what the skin of a cell takes
+abbrev pub skin_of : XGridLists → List Flow → (categories n : ℕ) → Taken
+skin_of xgrid flows categories n = with_rain (taken (ocean_sums xgrid flows (categories + 1) n 0)) (ice_of xgrid flows categories n).rain
+
+-- the skin after the step, from this heat and this water, and what the cell takes with its categories
+unfoldable pub skin_at : XGridLists → List Flow → (categories : ℕ) → (heat water : ℤ) → ℕ → After
+skin_at xgrid flows categories heat water n = after heat water (skin_of xgrid flows categories n) (ocean_sums xgrid flows (categories + 1) n 0).sun
+
+pub record CanGainSkin (xgrid : XGridLists) (flows : List Flow) (categories : ℕ) (heat water : ℤ) (n : ℕ) : Type 0 where
+  pub rows : AreRowsOf Ocean xgrid flows (categories + 1) n
+  pub heat_range : IsAmount (skin_at xgrid flows categories heat water n).heat
+  pub water_range : IsAmount (skin_at xgrid flows categories heat water n).water
+
+-- what cell n of the ocean's mosaic takes, its skin and its categories together
+unfoldable pub ocean_at : XGridLists → List Flow → (categories n : ℕ) → Taken
+ocean_at xgrid flows categories n = record {
+  heat = (skin_of xgrid flows categories n).heat +ℤ (ice_of xgrid flows categories n).heat;
+  water = (skin_of xgrid flows categories n).water +ℤ pos 0;
+}

@@ -1,0 +1,199 @@
+// What flows through the elements of a list.
+ghost use Rattle.std.specs.Prelude.{◌≡◌, ◌≢◌, ℕ, ◌+◌, ◌*◌, ◌<◌, ◌≤◌, length, pos, ◌≤ℤ◌, ◌+ℤ◌};
+ghost use Rattle.cpl_fixed.specs.Ranges.{AreRates, IsFromℤ};
+ghost use Rattle.cpl_flux.specs.Elements.{IsPart, IsElement};
+ghost use Rattle.cpl_flux.specs.declared.temperatures.TheConstants.{HOTTEST};
+ghost use Rattle.cpl_restart.specs.FastStep.{albedo};
+ghost use Rattle.cpl_fast.specs.Flows.{ArePortions, CanFlow, IsSky, area_in, flow_at, flow_in, flow_through, link_at, part_in, sky_of};
+
+use crate::numbers::part_of;
+use crate::portions::Portions;
+use cpl_fixed::Rates;
+use cpl_flux::{AirSide, Part, Weather, element_between};
+use cpl_xgrid::Surface;
+
+/// A cell of the air before the step, with what all its elements see of it: its weather, and the sun of the month.
+#[derive(Clone, Copy)]
+pub struct Sky {
+    pub air: AirSide,
+    pub weather: Weather,
+    pub sun: i64,
+}
+
+/// A part of the surface before the step, with its temperature.
+#[derive(Clone, Copy)]
+pub struct WarmPart {
+    pub part: Part,
+    pub temperature: u32,
+}
+
+/// What flows through an element in a fast step: heat from the air to the surface, water from the surface to the air, the sun that
+/// the surface absorbs, and rain.
+#[derive(Clone, Copy)]
+pub struct Flow {
+    pub heat: i64,
+    pub water: i64,
+    pub sun: i64,
+    pub rain: i64,
+}
+
+/// An exchange cell: the numbers of its cells in the air and on the surface, and the area of those before it in its cell of the air.
+#[derive(Clone, Copy)]
+pub struct Link {
+    pub air: u32,
+    pub surface: u32,
+    pub before: i64,
+}
+
+/// The exchange cells of a list: their links, the areas of their elements, row by row, and the parts of the surface, cell by cell.
+/// Each row has `width` elements, and each cell as many parts.
+#[derive(Drop)]
+pub struct Tables {
+    pub(crate) width: usize,
+    pub(crate) links: Vec<Link>,
+    pub(crate) areas: Vec<i64>,
+    pub(crate) parts: Vec<WarmPart>,
+}
+
+impl Tables {
+    // A row's link.
+    #[inline]
+    pub(crate) fn link(&self, row: usize) -> Link
+        requires { row < length self.now.links.items }
+        ensures { result ≡ link_at self.now.links.items row }
+    {
+        self.links[row]
+    }
+
+    // The area of the k-th element of a row.
+    #[inline]
+    pub(crate) fn area(&self, row: usize, k: usize) -> i64
+        requires { row * self.now.width + k < length self.now.areas.items }
+        ensures { result ≡ area_in self.now row k }
+    {
+        self.areas[row * self.width + k]
+    }
+
+    // Its part of the surface.
+    #[inline]
+    fn part(&self, row: usize, k: usize) -> WarmPart
+        requires row { row < length self.now.links.items }
+        requires place { (link_at self.now.links.items row).surface * self.now.width + k < length self.now.parts.items }
+        ensures { result ≡ part_in self.now row k }
+    {
+        self.parts[self.link(row).surface as usize * self.width + k]
+    }
+}
+
+// What the k-th part of a cell throws back of the sun.
+#[inline]
+fn albedo(rates: &Rates, list: Surface, k: usize) -> i64
+    requires { AreRates rates.now }
+    ensures value { result ≡ albedo rates.now list k }
+    ensures range { IsFromℤ 0 1_000 result }
+{
+    match list {
+        Surface::Land => rates.land_albedo,
+        Surface::Ocean if k == 0 => rates.water_albedo,
+        Surface::Ocean => rates.ice_albedo,
+    }
+}
+
+/// What flows through an element of the area `b`, before it rains. `portions` are the shares of the sun from this element on.
+#[inline]
+pub fn flow_through(
+    rates: &Rates,
+    sky: &Sky,
+    warm: &WarmPart,
+    albedo: i64,
+    b: i64,
+    portions: &mut Portions,
+) -> Flow
+    requires rates { AreRates rates.now }
+    requires sky { IsSky sky.now }
+    requires part { IsPart warm.now.part }
+    requires temperature { warm.now.temperature ≤ HOTTEST }
+    requires element { IsElement sky.now.air warm.now.part b }
+    requires albedo { IsFromℤ 0 1_000 albedo }
+    requires portions { ArePortions portions.old }
+    requires sun { portions.old.amount ≡ sky.now.sun }
+    requires whole { portions.old.whole ≡ sky.now.air.area }
+    requires within { (portions.old.from +ℤ b) ≤ℤ portions.old.whole }
+    ensures value { result ≡ flow_through rates.now sky.now warm.now albedo b portions.old.from }
+    ensures portions { ArePortions portions.new }
+    ensures amount { portions.new.amount ≡ portions.old.amount }
+    ensures whole { portions.new.whole ≡ portions.old.whole }
+    ensures from { portions.new.from ≡ portions.old.from +ℤ b }
+{
+    let flux = element_between(
+        rates,
+        &sky.air,
+        sky.weather,
+        &warm.part,
+        warm.temperature,
+        b,
+    );
+    let share = portions.next(b);
+    Flow {
+        heat: flux.heat,
+        water: flux.water,
+        sun: part_of(share, 1_000 - albedo, 1_000),
+        rain: 0,
+    }
+}
+
+// What flows through the elements of a row, before it rains.
+fn row_flows(
+    rates: &Rates,
+    list: Surface,
+    sky: &Sky,
+    tables: &Tables,
+    row: usize,
+    flows: &mut [Flow],
+)
+    requires rates { AreRates rates.now }
+    requires can { (k : ℕ) → k < tables.now.width → CanFlow sky.now tables.now row k }
+    requires row { row < length tables.now.links.items }
+    requires some { 0 < tables.now.width }
+    requires flows { length flows.old ≡ length tables.now.links.items * tables.now.width }
+    requires areas { length tables.now.areas.items ≡ length tables.now.links.items * tables.now.width }
+    ensures row { (k : ℕ) → k < tables.now.width → flow_at flows.new (row * tables.now.width + k) ≡ flow_in rates.now list sky.now tables.now row k }
+    ensures others { (n : ℕ) → n < row * tables.now.width → flow_at flows.new n ≡ flow_at flows.old n }
+{
+    let link = tables.link(row);
+    let mut portions = Portions::new(sky.sun, link.before, sky.air.area);
+    for k in 0..tables.width {
+        let (warm, b) = (tables.part(row, k), tables.area(row, k));
+        flows[row * tables.width + k] = flow_through(
+            rates,
+            sky,
+            &warm,
+            albedo(rates, list, k),
+            b,
+            &mut portions,
+        );
+    }
+}
+
+/// What flows through the elements of all rows of a list, before it rains.
+pub(crate) fn list_flows(
+    rates: &Rates,
+    list: Surface,
+    skies: &[Sky],
+    tables: &Tables,
+    flows: &mut [Flow],
+)
+    requires rates { AreRates rates.now }
+    requires airs { (row : ℕ) → row < length tables.now.links.items → (link_at tables.now.links.items row).air < length skies.now }
+    requires can { (row k : ℕ) → row < length tables.now.links.items → k < tables.now.width → CanFlow (sky_of skies.now tables.now row) tables.now row k }
+    requires some { 0 < tables.now.width }
+    requires flows { length flows.old ≡ length tables.now.links.items * tables.now.width }
+    requires areas { length tables.now.areas.items ≡ length tables.now.links.items * tables.now.width }
+    ensures { (row k : ℕ) → row < length tables.now.links.items → k < tables.now.width
+        → flow_at flows.new (row * tables.now.width + k) ≡ flow_in rates.now list (sky_of skies.now tables.now row) tables.now row k }
+{
+    for row in 0..tables.links.len() {
+        let sky = &skies[tables.link(row).air as usize];
+        row_flows(rates, list, sky, tables, row, flows);
+    }
+}

@@ -1,0 +1,55 @@
+// Rain on the elements of a list.
+ghost use Rattle.std.specs.Prelude.{◌≡◌, ℕ, ◌+◌, ◌*◌, ◌<◌, ◌≤◌, length};
+ghost use Rattle.cpl_fixed.specs.Amounts.{IsAmount, at};
+ghost use Rattle.cpl_fast.specs.Flows.{flow_at, link_at, sky_at};
+ghost use Rattle.cpl_fast.specs.Rain.{CanRainOn, in_list, rained_on};
+ghost use Rattle.cpl_fast.specs.Sums.{AreSmall, SumsAre};
+
+use crate::flows::{Flow, Sky, Tables};
+use crate::portions::Portions;
+use crate::sums::{Sums, row_sums};
+
+// Rain on the elements of a row, from a cell of the air with this rain and this area.
+fn row_rain(rain: i64, area: i64, tables: &Tables, row: usize, flows: &mut [Flow])
+    requires rain { IsAmount rain }
+    requires can { (k : ℕ) → k < tables.now.width → CanRainOn area tables.now row k }
+    requires row { row < length tables.now.links.items }
+    requires some { 0 < tables.now.width }
+    requires flows { length flows.old ≡ length tables.now.links.items * tables.now.width }
+    requires areas { length tables.now.areas.items ≡ length tables.now.links.items * tables.now.width }
+    ensures row { (k : ℕ) → k < tables.now.width → flow_at flows.new (row * tables.now.width + k) ≡ rained_on rain area tables.now flows.old row k }
+    ensures before { (n : ℕ) → n < row * tables.now.width → flow_at flows.new n ≡ flow_at flows.old n }
+    ensures behind { (n : ℕ) → (row + 1) * tables.now.width ≤ n → flow_at flows.new n ≡ flow_at flows.old n }
+{
+    let mut portions = Portions::new(rain, tables.link(row).before, area);
+    for k in 0..tables.width {
+        let place = row * tables.width + k;
+        flows[place].rain = portions.next(tables.area(row, k));
+    }
+}
+
+// Rain on the elements of all rows of a list, and the sums of all their flows.
+pub(crate) fn list_rain(skies: &[Sky], rain: &[i64], tables: &Tables, flows: &mut [Flow]) -> Sums
+    requires airs { (row : ℕ) → row < length tables.now.links.items → (link_at tables.now.links.items row).air < length skies.now }
+    requires rains { (n : ℕ) → n < length skies.now → IsAmount (at rain.now n) }
+    requires count { length rain.now ≡ length skies.now }
+    requires can { (row k : ℕ) → row < length tables.now.links.items → k < tables.now.width → CanRainOn (sky_at skies.now (link_at tables.now.links.items row).air).air.area tables.now row k }
+    requires some { 0 < tables.now.width }
+    requires width { tables.now.width ≤ 6 }
+    requires few { length tables.now.links.items ≤ 1_048_576 }
+    requires flows { length flows.old ≡ length tables.now.links.items * tables.now.width }
+    requires areas { length tables.now.areas.items ≡ length tables.now.links.items * tables.now.width }
+    ensures flows { (row k : ℕ) → row < length tables.now.links.items → k < tables.now.width
+        → flow_at flows.new (row * tables.now.width + k)
+        ≡ rained_on (at rain.now (link_at tables.now.links.items row).air) (sky_at skies.now (link_at tables.now.links.items row).air).air.area tables.now flows.old row k }
+    ensures sums { SumsAre result (in_list flows.new tables.now.width (length tables.now.links.items)) }
+    ensures small { AreSmall (6 * length tables.now.links.items) result }
+{
+    let mut sums = Sums::none();
+    for row in 0..tables.links.len() {
+        let air = tables.link(row).air as usize;
+        row_rain(rain[air], skies[air].air.area, tables, row, flows);
+        sums.join(&row_sums(flows, tables.width, row));
+    }
+    sums
+}

@@ -1,0 +1,116 @@
+// The stages of a fast step, one after another, in its room.
+ghost use Rattle.std.specs.Prelude.{◌≡◌};
+ghost use Rattle.cpl_xgrid.specs.declared.parts.Surface.TheVariants.{Land, Ocean};
+ghost use Rattle.cpl_restart.specs.FastStep.{entered, left, rain_on};
+ghost use Rattle.cpl_fast.specs.Stages.{HasAir, HasFlows, HasRained, IsSeen, dry, given, step_of};
+
+use crate::air::air_lists;
+use crate::flows::list_flows;
+use crate::rain::list_rain;
+use crate::room::FastRoom;
+use crate::sums::{Taken, taken_by};
+use cpl_diffusion::diffuse;
+use cpl_fixed::Rates;
+use cpl_restart::Mid;
+use cpl_xgrid::{Grid, Surface};
+
+/// What a fast step goes by: the grid, the rates, the month, 1 to 12, and the state before the step.
+#[derive(Clone, Copy)]
+pub(crate) struct View<'a> {
+    pub(crate) grid: &'a Grid,
+    pub(crate) rates: &'a Rates,
+    pub(crate) month: u32,
+    pub(crate) mid: &'a Mid,
+}
+
+/// What the cells of the air moved: the sun that was absorbed, and what they gave to the elements of both lists.
+#[derive(Clone, Copy)]
+pub(crate) struct Given {
+    pub(crate) entered: i64,
+    pub(crate) land: Taken,
+    pub(crate) ocean: Taken,
+}
+
+impl FastRoom {
+    // What flows through all elements, before it rains.
+    pub(crate) fn flow(&mut self, view: &View)
+        requires { IsSeen (step_of view.now) self.old }
+        ensures { HasFlows (step_of view.now) dry self.new }
+    {
+        list_flows(
+            view.rates,
+            Surface::Land,
+            &self.skies,
+            &self.land,
+            &mut self.land_flows,
+        );
+        list_flows(
+            view.rates,
+            Surface::Ocean,
+            &self.skies,
+            &self.ocean,
+            &mut self.ocean_flows,
+        );
+    }
+
+    // The cells of the air give and take, and it rains. The result is the heat to space.
+    pub(crate) fn let_rain(&mut self, view: &View) -> i64
+        requires { HasFlows (step_of view.now) dry self.old }
+        ensures left { result ≡ left (step_of view.now) }
+        ensures flows { HasFlows (step_of view.now) dry self.new }
+        ensures rained { HasRained (step_of view.now) self.new }
+    {
+        let left = air_lists(
+            view.rates,
+            &view.grid.xgrid,
+            &self.skies,
+            self.ocean.width,
+            &self.land_flows,
+            &self.ocean_flows,
+            &mut self.air_heat,
+            &mut self.air_vapour,
+            &mut self.rain,
+        );
+        left as i64
+    }
+
+    // The rain falls on all elements. The result is what the cells of the air gave to them.
+    pub(crate) fn rain_down(&mut self, view: &View) -> Given
+        requires flows { HasFlows (step_of view.now) dry self.old }
+        requires rained { HasRained (step_of view.now) self.old }
+        ensures entered { result.entered ≡ entered (step_of view.now) }
+        ensures land { result.land ≡ given (step_of view.now) Land }
+        ensures ocean { result.ocean ≡ given (step_of view.now) Ocean }
+        ensures flows { HasFlows (step_of view.now) (rain_on (step_of view.now)) self.new }
+        ensures rained { HasRained (step_of view.now) self.new }
+    {
+        let land = list_rain(&self.skies, &self.rain, &self.land, &mut self.land_flows);
+        let ocean = list_rain(&self.skies, &self.rain, &self.ocean, &mut self.ocean_flows);
+        Given {
+            entered: (land.sun + ocean.sun) as i64,
+            land: taken_by(&land),
+            ocean: taken_by(&ocean),
+        }
+    }
+
+    // The air diffuses.
+    pub(crate) fn diffuse(&mut self, view: &View)
+        requires flows { HasFlows (step_of view.now) (rain_on (step_of view.now)) self.old }
+        requires rained { HasRained (step_of view.now) self.old }
+        ensures flows { HasFlows (step_of view.now) (rain_on (step_of view.now)) self.new }
+        ensures air { HasAir (step_of view.now) self.new }
+    {
+        diffuse(
+            &view.grid.air,
+            &self.ways,
+            &mut self.air_heat,
+            &mut self.diffusion,
+        );
+        diffuse(
+            &view.grid.air,
+            &self.ways,
+            &mut self.air_vapour,
+            &mut self.diffusion,
+        );
+    }
+}
