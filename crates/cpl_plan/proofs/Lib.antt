@@ -1,0 +1,5 @@
+pub mod Totals
+pub mod Dates
+pub mod Few
+pub mod Held
+pub mod Lawful
