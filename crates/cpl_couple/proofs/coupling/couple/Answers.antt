@@ -1,0 +1,68 @@
+use Rattle.std.proofs.Common.{◌∙◌, sym, ap, subst}
+use Rattle.cpl_restart.specs.declared.whole.Whole.{Whole}
+use Rattle.cpl_restart.specs.States.{land_cells, ocean_cells}
+use Rattle.cpl_restart.specs.CouplingStep.{step_arrived, step_runoff, surface_after}
+use Rattle.cpl_slow.specs.Sums.{gain_sums}
+use Rattle.cpl_couple.specs.Rooms.{CanCoupleOn}
+use Rattle.cpl_couple.specs.Tallies.{all_fast_sums}
+use Rattle.cpl_couple.proofs.Steps.{keeps, turned_is, flight_in_range, flight_count, ice_count, flown_is, seconds_fit, whole_step}
+use Rattle.cpl_couple.proofs.coupling.couple.Goals as goal
+
+pub go_surface-tally-requires-clause-can : goal.go_surface-tally-requires-clause-can
+go_surface-tally-requires-clause-can c = subst (CanCoupleOn c.args.grid.now c.args.names.now) (sym c.swap.ensures.y_after) c.requires.can
+
+pub go_ocean-requires-clause-sea : goal.go_ocean-requires-clause-sea
+go_ocean-requires-clause-sea c =
+    let turn = c.swap-2.ensures.x_after ∙ c.go_surface-tally.ensures.whole ∙ ap (surface_after c.args.grid.now c.args.names.now) c.swap.ensures.y_after in
+    let flown = c.copy_from_slice.ensures.items ∙ c.as_slice.ensures in
+    turned_is c.args.grid.now c.args.names.now c.args.whole.now c.requires.can c.swap-2.new.x c.copy_from_slice.new.self.items turn flown
+
+pub go_ocean-requires-clause-flight : goal.go_ocean-requires-clause-flight
+go_ocean-requires-clause-flight c =
+    let turn = c.swap-2.ensures.x_after ∙ c.go_surface-tally.ensures.whole ∙ ap (surface_after c.args.grid.now c.args.names.now) c.swap.ensures.y_after in
+    let flown = c.copy_from_slice.ensures.items ∙ c.as_slice.ensures in
+    flight_in_range c.args.grid.now c.args.names.now c.args.whole.now c.requires.can c.swap-2.new.x c.copy_from_slice.new.self.items turn flown
+
+pub go_ocean-requires-clause-count : goal.go_ocean-requires-clause-count
+go_ocean-requires-clause-count c =
+    let turn = c.swap-2.ensures.x_after ∙ c.go_surface-tally.ensures.whole ∙ ap (surface_after c.args.grid.now c.args.names.now) c.swap.ensures.y_after in
+    let flown = c.copy_from_slice.ensures.items ∙ c.as_slice.ensures in
+    flight_count c.args.grid.now c.args.names.now c.args.whole.now c.requires.can c.swap-2.new.x c.copy_from_slice.new.self.items turn flown
+
+pub go_ocean-requires-clause-to_ice : goal.go_ocean-requires-clause-to_ice
+go_ocean-requires-clause-to_ice c =
+    let turn = c.swap-2.ensures.x_after ∙ c.go_surface-tally.ensures.whole ∙ ap (surface_after c.args.grid.now c.args.names.now) c.swap.ensures.y_after in
+    let flown = c.copy_from_slice.ensures.items ∙ c.as_slice.ensures in
+    ice_count c.args.grid.now c.args.names.now c.args.whole.now c.requires.can c.swap-2.new.x c.copy_from_slice.new.self.items turn flown
+
+pub go_ocean-requires-clause-steps : goal.go_ocean-requires-clause-steps
+go_ocean-requires-clause-steps c =
+    let turn = c.swap-2.ensures.x_after ∙ c.go_surface-tally.ensures.whole ∙ ap (surface_after c.args.grid.now c.args.names.now) c.swap.ensures.y_after in
+    let flown = c.copy_from_slice.ensures.items ∙ c.as_slice.ensures in
+    flown_is c.args.grid.now c.args.names.now c.args.whole.now c.requires.can c.swap-2.new.x c.copy_from_slice.new.self.items turn flown
+
+pub overflow_add-whole : goal.overflow_add-whole
+overflow_add-whole c =
+    let turn = c.swap-2.ensures.x_after ∙ c.go_surface-tally.ensures.whole ∙ ap (surface_after c.args.grid.now c.args.names.now) c.swap.ensures.y_after in
+    let flown = c.copy_from_slice.ensures.items ∙ c.as_slice.ensures in
+    seconds_fit c.args.grid.now c.args.names.now c.args.whole.now c.requires.can c.swap-2.new.x c.copy_from_slice.new.self.items turn flown c.go_ocean.new.whole c.go_ocean.ensures.value
+
+pub returns-clause-value : goal.returns-clause-value
+returns-clause-value c =
+    let turn = c.swap-2.ensures.x_after ∙ c.go_surface-tally.ensures.whole ∙ ap (surface_after c.args.grid.now c.args.names.now) c.swap.ensures.y_after in
+    let flown = c.copy_from_slice.ensures.items ∙ c.as_slice.ensures in
+    whole_step c.args.grid.now c.args.names.now c.args.whole.now c.requires.can c.swap-2.new.x c.copy_from_slice.new.self.items turn flown c.go_ocean.new.whole c.go_ocean.ensures.value
+
+pub returns-clause-keeps : goal.returns-clause-keeps
+returns-clause-keeps c = keeps c.args.grid.now c.args.names.now c.args.whole.now c.requires.can
+
+pub returns-clause-moved : goal.returns-clause-moved
+returns-clause-moved c = c.go_surface-tally.ensures.moved ∙ ap (all_fast_sums c.args.grid.now c.args.names.now) c.swap.ensures.y_after
+
+pub returns-clause-gave : goal.returns-clause-gave
+returns-clause-gave c =
+    c.go_surface-tally.ensures.gave ∙ ap (λ (w : Whole). gain_sums (land_cells c.args.grid.now) (step_runoff c.args.grid.now c.args.names.now w)) c.swap.ensures.y_after
+
+pub returns-clause-took : goal.returns-clause-took
+returns-clause-took c =
+    c.go_surface-tally.ensures.took ∙ ap (λ (w : Whole). gain_sums (ocean_cells c.args.grid.now) (step_arrived c.args.grid.now c.args.names.now w)) c.swap.ensures.y_after

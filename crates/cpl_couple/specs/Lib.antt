@@ -1,0 +1,3 @@
+pub mod Rooms
+pub mod Tallies
+pub mod Seas
