@@ -1,7 +1,7 @@
 // The numbers of the faces of a piece.
-ghost use Rattle.std.specs.Prelude.{◌≡◌, ◌+◌, ◌*◌, ◌-◌, ◌<◌, ◌≤◌, pos, ◌-ℤ◌, IfOk, IfSome};
+ghost use Rattle.std.specs.Prelude.{◌≡◌, ◌+◌, ◌*◌, ◌-◌, ◌<◌, ◌≤◌, pos, ◌-ℤ◌, IfOk, IfSome, slice_set};
 ghost use Rattle.cpl_layout.specs.Owners.{IsPiece};
-ghost use Rattle.cpl_field.specs.Crossings.{SideAt, IsSideOf, IsFaceNumber, SetsSide, inner_mate, outward_at};
+ghost use Rattle.cpl_field.specs.Crossings.{SideAt, IsSideOf, IsFaceNumber, SetsSide, eastward_at, inner_mate, northward_at, outward_at};
 
 use cpl_layout::Piece;
 use cpl_mosaic::Side;
@@ -85,5 +85,27 @@ impl Faces {
             Side::S => self.northward[place(self.nx, i, j)] = -x,
             Side::N => self.northward[place(self.nx, i, j + 1)] = x,
         }
+    }
+
+    /// Sets what crosses the face west of column `i` in row `j` eastward. East of the last column is that of one column more.
+    pub fn set_eastward(&mut self, i: u32, j: u32, x: i64)
+        requires column { i ≤ self.old.nx }
+        requires row { j < self.old.ny }
+        requires range { IsFaceNumber x }
+        ensures there { eastward_at self.new i j ≡ x }
+        ensures list { self.new ≡ record self.old { eastward = slice_set self.old.eastward (j * (self.old.nx + 1) + i) x } }
+    {
+        self.eastward[place(self.nx + 1, i, j)] = x;
+    }
+
+    /// Sets what crosses the face south of row `j` in column `i` northward. North of the last row is that of one row more.
+    pub fn set_northward(&mut self, i: u32, j: u32, x: i64)
+        requires column { i < self.old.nx }
+        requires row { j ≤ self.old.ny }
+        requires range { IsFaceNumber x }
+        ensures there { northward_at self.new i j ≡ x }
+        ensures list { self.new ≡ record self.old { northward = slice_set self.old.northward (j * self.old.nx + i) x } }
+    {
+        self.northward[place(self.nx, i, j)] = x;
     }
 }

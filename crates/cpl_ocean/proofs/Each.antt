@@ -1,0 +1,49 @@
+-- Layers that change one after the other.
+use Rattle.std.proofs.Common.{◌≡◌, ◌∙◌, refl, sym, ap, subst, ℕ, ◌+◌, ◌<◌, ◌≤◌, arith, inl, inr, List, [], ◌∷◌, ◌++◌, length, slice_set}
+use Rattle.std.proofs.lemmas.Bool.{cases_eq}
+use Rattle.std.proofs.lemmas.List.{get_or_append_left, get_or_push, length-set, length_push}
+use Rattle.cpl_ocean.specs.Layers.{EachLayer, LayerNumbers, layer_at, no_layer}
+use Rattle.cpl_ocean.proofs.Stored.{layer_other, layer_there}
+
+-- the layers above one have changed, and the others stay
+pub record EachTo (Changes : LayerNumbers → LayerNumbers → Type 0) (n : ℕ) (old new : List LayerNumbers) : Type 0 where
+  pub count : length new ≡ length old
+  pub done : (l : ℕ) → l < n → l < length old → Changes (layer_at old l) (layer_at new l)
+  pub rest : (l : ℕ) → n ≤ l → layer_at new l ≡ layer_at old l
+
+module _ (Changes : LayerNumbers → LayerNumbers → Type 0) where
+  pub each_none : (layers : List LayerNumbers) → EachTo Changes 0 layers layers
+  each_none layers = record { count = refl; done = λ l above less. absurd (omega arith); rest = λ l le. refl }
+
+  pub each_more : (n : ℕ) (old layers : List LayerNumbers) → EachTo Changes n old layers → n < length old → (here layer : LayerNumbers) → here ≡ layer_at layers n → Changes here layer → EachTo Changes (n + 1) old (slice_set layers n layer)
+  each_more n old layers to within here layer same change =
+      let count = to.count in record {
+        count = length-set layers n layer ∙ to.count;
+        done = λ l above less. elim (cases_eq l n) [
+          | inl e ↦
+              let there : Changes (layer_at old n) (layer_at (slice_set layers n layer) n) =
+              subst (λ (a : LayerNumbers). Changes a (layer_at (slice_set layers n layer) n)) (same ∙ to.rest n (omega arith))
+              (subst (λ (b : LayerNumbers). Changes here b) (sym (layer_there layers n layer (omega arith))) change) in
+              subst (λ (k : ℕ). Changes (layer_at old k) (layer_at (slice_set layers n layer) k)) (sym e) there
+          | inr ne ↦ let other : l ≡ n → ⊥ = ne in subst (λ (b : LayerNumbers). Changes (layer_at old l) b) (sym (layer_other layers n l layer ne)) (to.done l (omega arith) less)
+        ];
+        rest = λ l le. layer_other layers n l layer (λ e. absurd (omega arith)) ∙ to.rest l (omega arith);
+      }
+
+  pub each_all : (n : ℕ) (old new : List LayerNumbers) → length old ≤ n → EachTo Changes n old new → EachLayer Changes old new
+  each_all n old new all to = record { count = to.count; each = λ l less. to.done l (omega arith) less }
+
+-- one layer more at the end of a list, of which what is meant holds as it does of the others
+pub each_pushed : (P : LayerNumbers → Type 0) (n : ℕ) (layers new : List LayerNumbers) (layer : LayerNumbers) → length layers ≡ n → ((l : ℕ) → l < n → P (layer_at layers l)) → new ≡ layers ++ layer ∷ [] → P layer → (length new ≡ n + 1) × ((l : ℕ) → l < n + 1 → P (layer_at new l))
+each_pushed P n layers new layer count each is here = (
+  ap (λ (list : List LayerNumbers). length list) is ∙ length_push layers layer ∙ ap (λ m. m + 1) count,
+  λ l less. elim (cases_eq l n) [
+    | inl e ↦
+        let last : layer_at new n ≡ layer = ap (λ (list : List LayerNumbers). layer_at list n) is ∙ get_or_push layers layer no_layer n count in
+        subst (λ (m : ℕ). P (layer_at new m)) (sym e) (subst P (sym last) here)
+    | inr ne ↦
+        let other : l ≡ n → ⊥ = ne in
+        let kept : layer_at new l ≡ layer_at layers l = ap (λ (list : List LayerNumbers). layer_at list l) is ∙ get_or_append_left layers (layer ∷ []) no_layer l (omega arith) in
+        subst P (sym kept) (each l (omega arith))
+  ],
+)

@@ -1,0 +1,10 @@
+pub mod Around
+pub mod Swept
+pub mod Sums
+pub mod Raised
+pub mod Driven
+pub mod Stored
+pub mod Each
+pub mod Steps
+pub mod Ended
+pub mod Loaded

@@ -1,0 +1,197 @@
+// One layer of a piece.
+ghost use Rattle.std.specs.Prelude.{◌≡◌, ◌*◌, ◌<◌, ◌≤◌, ℕ, length, pos, IfOk, slice_index_or};
+ghost use Rattle.cpl_layout.specs.Owners.{IsPiece};
+ghost use Rattle.cpl_field.specs.Crossings.{IsFaceNumber, IsSideOf, SideAt, outward_at};
+ghost use Rattle.cpl_field.specs.Spots.{Spot, CellAt, HoleAt, IsSpot, IsSameShape, number_at};
+ghost use Rattle.cpl_transport.specs.Salts.{nothing};
+ghost use Rattle.cpl_ocean.specs.Flows.{AreSalty};
+ghost use Rattle.cpl_ocean.specs.Layers.{AreAlike, IsEmptyLayer, IsLayerOf, SetsCell, salty_at};
+ghost use Rattle.cpl_ocean.specs.Numbers.{DrivesLayer};
+ghost use Rattle.cpl_ocean.specs.Pieces.{ChangesField, ChangesSide, LoadsCells, LoadsHoles, field_in};
+ghost use Rattle.cpl_ocean.specs.Sweeps.{Computes, IsBasin, IsInner, IsRim, left_in};
+
+use crate::basin::Basin;
+use crate::cells::NOTHING;
+use crate::fields::Fields;
+use crate::loads::{load_cells, load_holes};
+use crate::numbers::drive;
+use crate::sweep::{sweep_inner, sweep_rim};
+use cpl_field::{Faces, Field};
+use cpl_ice::Salty;
+use cpl_layout::Piece;
+use cpl_mosaic::Side;
+use std::alloc::{AllocError, Global};
+use std::marker::Model;
+
+/// A layer's fields, and what the transport leaves in each of its cells: the rows one after another.
+#[derive(Drop)]
+pub(crate) struct Layer {
+    pub(crate) fields: Fields,
+    pub(crate) left: Vec<Salty>,
+}
+
+impl Model for Layer {
+    ghost use Rattle.cpl_ocean.specs.Layers.{LayerNumbers};
+
+    ghost Value = { LayerNumbers };
+
+    ghost view = { λ a. record { fields = a.fields; left = a.left.items } };
+}
+
+impl Layer {
+    /// A layer with nothing in it.
+    pub(crate) fn new(alloc: Global, piece: &Piece) -> Result<Layer, AllocError>
+        requires { IsPiece piece.now }
+        ensures { IfOk result (IsEmptyLayer piece.now) }
+    {
+        Ok(Layer {
+            fields: Fields {
+                water: Field::new(alloc, piece, 2)?,
+                heat: Field::new(alloc, piece, 2)?,
+                salt: Field::new(alloc, piece, 2)?,
+                faces: Faces::new(alloc, piece)?,
+            },
+            left: vec![in alloc; NOTHING; (piece.nx * piece.ny) as usize]?,
+        })
+    }
+
+    /// The water of a cell.
+    pub(crate) fn water(&self, i: u32, j: u32) -> i64
+        requires { IsSpot self.now.fields.water (CellAt i j) }
+        ensures { result ≡ number_at self.now.fields.water (CellAt i j) }
+    {
+        self.fields.water.get(i, j)
+    }
+
+    /// The water of a hole next to the piece.
+    pub(crate) fn water_beside(&self, side: Side, at: u32) -> i64
+        requires { IsSpot self.now.fields.water (HoleAt side at 1) }
+        ensures { result ≡ number_at self.now.fields.water (HoleAt side at 1) }
+    {
+        self.fields.water.halo(side, at, 1)
+    }
+
+    /// What the transport left in a cell, by its place.
+    pub(crate) fn left_at(&self, place: usize) -> Salty
+        requires { place < length self.now.left }
+        ensures { result ≡ slice_index_or self.now.left place nothing }
+    {
+        self.left[place]
+    }
+
+    /// Sets a cell.
+    pub(crate) fn set(&mut self, i: u32, j: u32, it: Salty)
+        requires alike { AreAlike self.old.fields }
+        requires cell { IsSpot self.old.fields.water (CellAt i j) }
+        ensures fields { SetsCell self.old.fields self.new.fields i j it }
+        ensures left { self.new.left ≡ self.old.left }
+    {
+        self.fields.set(i, j, it);
+    }
+
+    /// A cell.
+    pub(crate) fn get(&self, i: u32, j: u32) -> Salty
+        requires alike { AreAlike self.now.fields }
+        requires cell { IsSpot self.now.fields.water (CellAt i j) }
+        ensures { result ≡ salty_at self.now.fields (CellAt i j) }
+    {
+        self.fields.get(i, j)
+    }
+
+    /// Water (0), heat (1) or salt (2).
+    pub(crate) fn field(&self, n: u32) -> &Field
+        requires { n < 3 }
+        ensures { result.now ≡ field_in self.now.fields n }
+    {
+        match n {
+            0 => &self.fields.water,
+            1 => &self.fields.heat,
+            _ => &self.fields.salt,
+        }
+    }
+
+    /// The numbers of the faces.
+    pub(crate) fn faces(&self) -> &Faces
+        ensures { result.now ≡ self.now.fields.faces }
+    {
+        &self.fields.faces
+    }
+
+    /// Sets the number of the face of a side of a cell.
+    pub(crate) fn set_face(&mut self, i: u32, j: u32, side: Side, x: i64)
+        requires side { IsSideOf self.old.fields.faces (record { i = i; j = j; side = side }) }
+        requires range { IsFaceNumber x }
+        ensures { ChangesSide i j side x self.old self.new }
+    {
+        self.fields.faces.set_side(i, j, side, x);
+    }
+
+    /// Computes what the transport leaves in the cells that have two cells or more between them and each edge of the piece.
+    pub(crate) fn transport_inner(&mut self, basin: &Basin, slope: u32)
+        requires slope { slope ≤ 40 }
+        requires basin { IsBasin basin.now }
+        requires layer { IsLayerOf basin.now.area self.old }
+        requires salty { AreSalty basin.now.area self.old.fields }
+        requires left { length self.old.left ≡ basin.now.nx * basin.now.ny }
+        ensures fields { self.new.fields ≡ self.old.fields }
+        ensures left { Computes basin.now.area (left_in basin.now slope self.old.fields) (IsInner basin.now.area) self.old.left self.new.left }
+    {
+        sweep_inner(basin, slope, &self.fields, &mut self.left);
+    }
+
+    /// Computes what it leaves in the other cells.
+    pub(crate) fn transport_rim(&mut self, basin: &Basin, slope: u32)
+        requires slope { slope ≤ 40 }
+        requires basin { IsBasin basin.now }
+        requires layer { IsLayerOf basin.now.area self.old }
+        requires salty { AreSalty basin.now.area self.old.fields }
+        requires left { length self.old.left ≡ basin.now.nx * basin.now.ny }
+        ensures fields { self.new.fields ≡ self.old.fields }
+        ensures left { Computes basin.now.area (left_in basin.now slope self.old.fields) (IsRim basin.now.area) self.old.left self.new.left }
+    {
+        sweep_rim(basin, slope, &self.fields, &mut self.left);
+    }
+
+    /// Sets the numbers of the faces to what they are after a step.
+    pub(crate) fn drive(&mut self, basin: &Basin, slope: u32)
+        requires slope { slope ≤ 40 }
+        requires basin { IsBasin basin.now }
+        requires layer { IsLayerOf basin.now.area self.old }
+        ensures { DrivesLayer basin.now.area (number_at basin.now.heights) slope self.old self.new }
+    {
+        drive(basin, slope, &mut self.fields.faces);
+    }
+
+    /// Sets the cells of the water (0), heat (1) or salt (2).
+    pub(crate) fn load(&mut self, n: u32, from: &Field, nx: u32, ny: u32)
+        requires quantity { n < 3 }
+        requires columns { from.now.nx ≡ nx }
+        requires rows { from.now.ny ≡ ny }
+        requires alike { AreAlike self.old.fields }
+        requires shape { IsSameShape from.now self.old.fields.water }
+        ensures { ChangesField n (LoadsCells from.now) self.old self.new }
+    {
+        match n {
+            0 => load_cells(from, nx, ny, &mut self.fields.water),
+            1 => load_cells(from, nx, ny, &mut self.fields.heat),
+            _ => load_cells(from, nx, ny, &mut self.fields.salt),
+        }
+    }
+
+    /// Sets its holes.
+    pub(crate) fn load_halo(&mut self, n: u32, from: &Field, nx: u32, ny: u32)
+        requires quantity { n < 3 }
+        requires columns { from.now.nx ≡ nx }
+        requires rows { from.now.ny ≡ ny }
+        requires width { from.now.width ≡ 2 }
+        requires alike { AreAlike self.old.fields }
+        requires shape { IsSameShape from.now self.old.fields.water }
+        ensures { ChangesField n (LoadsHoles from.now) self.old self.new }
+    {
+        match n {
+            0 => load_holes(from, nx, ny, &mut self.fields.water),
+            1 => load_holes(from, nx, ny, &mut self.fields.heat),
+            _ => load_holes(from, nx, ny, &mut self.fields.salt),
+        }
+    }
+}
