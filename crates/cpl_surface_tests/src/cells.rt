@@ -4,7 +4,7 @@ ghost use Rattle.cpl_ice.specs.Cells.{IsAmount, IsIceCell, HasNoFlight};
 ghost use Rattle.cpl_ice.specs.Slow.{heat_of, water_of};
 
 use crate::rates::example;
-use cpl_fixed::Gain;
+use cpl_fixed::{Gain, share};
 use cpl_ice::{IceCell, Salty, ToIce};
 use cpl_land::LandCell;
 
@@ -55,6 +55,9 @@ fn land_gains_and_runs_off(rt: HostRuntime) {
     let runoff = cell.slow(&example());
     assert_eq!(rt; (runoff.water, runoff.heat), (10, 14_260));
     assert_eq!(rt; (cell.water, cell.heat), (40, 57_040));
+    // Outlets of weights 1 and 2: a third rounded down, and what it leaves.
+    assert_eq!(rt; (share(10, 0, 1, 3), share(14_260, 0, 1, 3)), (3, 4_753));
+    assert_eq!(rt; (share(10, 1, 3, 3), share(14_260, 1, 3, 3)), (7, 9_507));
 }
 
 #[test]
