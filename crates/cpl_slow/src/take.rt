@@ -50,10 +50,9 @@ fn clear(list: &mut List<i64>, spare: &mut Vec<i64>)
 /// The beginning of a coupling step: the ice takes the flight to it, as frazil and skin, and nothing flies any more. The ocean
 /// has the flight to it from the state before. What skin and frazil were before is of no use. It takes no memory.
 pub fn take_flights(grid: &Grid, mid: &mut Mid, room: &mut SlowRoom)
-    requires can { CanTake grid.now mid.old }
-    requires room { IsSlowRoom grid.now room.old }
+    requires { CanTake grid.now mid.old }
     ensures value { mid.new ≡ taken grid.now mid.old.whole }
-    ensures room { IsSlowRoom grid.now room.new }
+    ensures room { IsSlowRoom grid.now room.old → IsSlowRoom grid.now room.new }
 {
     let cells = grid.ocean.mosaic.cells() as usize;
     let flights = mid.whole.to_ice.as_slice();

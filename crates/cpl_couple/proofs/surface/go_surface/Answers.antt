@@ -1,8 +1,8 @@
 use Rattle.cpl_couple.proofs.Steps.{can_take, month_is, taken_is, fast_can, fast_range, moved_is, slow_can, runoff_is, arrival_is, last_is, last_skins}
 use Rattle.cpl_couple.proofs.surface.go_surface.Goals as goal
 
-pub take_flights-requires-clause-can : goal.take_flights-requires-clause-can
-take_flights-requires-clause-can c = can_take c.args.grid.now c.args.mid.now c.requires.can.run.is_whole c.requires.skins
+pub take_flights-requires : goal.take_flights-requires
+take_flights-requires c = can_take c.args.grid.now c.args.mid.now c.requires.can.run.is_whole c.requires.skins
 
 pub divide-requires-clause-whole : goal.divide-requires-clause-whole
 divide-requires-clause-whole c =
@@ -24,6 +24,9 @@ slow_step-drained-requires-clause-can c =
     let month = month_is c.args.names.now c.args.mid.now.whole c.month_of-month.result c.requires.can.run.is_whole.stored.elapsed c.month_of-month.ensures in
     slow_can c.args.grid.now c.args.names.now c.args.mid.now.whole c.requires.can c.month_of-month.result c.take_flights.new.mid month c.take_flights.ensures.value
     c.go_fast-moved.new.mid c.go_fast-moved.ensures.value
+
+pub slow_step-drained-requires-clause-room : goal.slow_step-drained-requires-clause-room
+slow_step-drained-requires-clause-room c = c.take_flights.ensures.room c.requires.slow
 
 pub returns-clause-whole : goal.returns-clause-whole
 returns-clause-whole c =
