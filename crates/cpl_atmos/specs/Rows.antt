@@ -3,18 +3,7 @@ use Rattle.std.specs.Prelude.{◌≡◌, ℕ, ◌+◌, ◌*◌, ◌^◌, ◌<◌
 use Rattle.cpl_mosaic.specs.declared.parts.Side.{Side}
 use Rattle.cpl_mosaic.specs.declared.parts.Side.TheVariants.{S}
 use Rattle.cpl_field.specs.Spots.{FieldNumbers, CellAt, HoleAt, IsSpot, IsSameShape, number_at}
-use Rattle.cpl_atmos.specs.Sweeps.{flow_out, IsRim, value_in}
-
--- a cell of row j, in columns from one to before another
-pub record IsInSpan (from to j : ℕ) (i k : ℕ) : Type 0 where
-  pub row : k ≡ j
-  pub west : from ≤ i
-  pub east : i < to
-
--- a cell of row j with a side on the piece's edge
-pub record IsRimOfRow (area : FieldNumbers) (j : ℕ) (i k : ℕ) : Type 0 where
-  pub row : k ≡ j
-  pub rim : IsRim area i k
+use Rattle.cpl_atmos.specs.Sweeps.{flow_out, value_in}
 
 -- what flows out of a cell, no more than an eighth of what the air may hold
 pub record IsLoss (v flow : ℤ) : Type 0 where

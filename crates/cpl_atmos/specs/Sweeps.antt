@@ -1,9 +1,10 @@
 -- A step of the diffusion on one piece of the air.
-use Rattle.std.specs.Prelude.{◌≡◌, ℕ, zero, ◌+◌, ◌*◌, ◌^◌, ◌<◌, List, length, ℤ, pos, ◌+ℤ◌, ◌-ℤ◌, ◌≤ℤ◌, slice_index_or}
+use Rattle.std.specs.Prelude.{◌≡◌, ℕ, zero, ◌^◌, List, ℤ, pos, ◌+ℤ◌, ◌-ℤ◌, ◌≤ℤ◌}
 use Rattle.cpl_mosaic.specs.declared.parts.Side.{Side}
 use Rattle.cpl_mosaic.specs.declared.parts.Side.TheVariants.{W, E, S, N}
 use Rattle.cpl_fixed.specs.Flows.{flow, IsAirAmount, IsAirArea}
 use Rattle.cpl_field.specs.Spots.{FieldNumbers, Spot, CellAt, HoleAt, IsSpot, IsSameShape, number_at, out_from}
+use Rattle.cpl_field.specs.Sweeps.{ComputesFor, IsInside, IsOnRim, in_rows}
 
 -- what flows out of a cell with the amount x and the area a toward a spot with the amount x' and the area a': nothing toward
 -- one without area, which stands beyond a wall
@@ -25,15 +26,12 @@ abbrev pub next_at : (area x : FieldNumbers) → (i j : ℕ) → ℤ
 next_at area x i j = number_at x (CellAt i j) -ℤ loss_at area x i j
 
 -- a cell of the piece with no side on the piece's edge
-pub record IsInner (area : FieldNumbers) (i j : ℕ) : Type 0 where
-  pub west : 0 < i
-  pub east : i + 1 < area.nx
-  pub south : 0 < j
-  pub north : j + 1 < area.ny
+abbrev pub IsInner : FieldNumbers → (i j : ℕ) → Type 0
+IsInner area i j = IsInside 1 area i j
 
 -- a cell with some side on the piece's edge
-abbrev pub IsRim : FieldNumbers → ℕ → ℕ → Type 0
-IsRim area i j = IsInner area i j → ⊥
+abbrev pub IsRim : FieldNumbers → (i j : ℕ) → Type 0
+IsRim area i j = IsOnRim 1 area i j
 
 -- a piece with the areas of its cells and holes, and a computed amount for each of its cells
 pub record AirNumbers : Type 0 where
@@ -42,16 +40,14 @@ pub record AirNumbers : Type 0 where
 
 -- a computed amount: the list has the rows one after another
 abbrev pub value_in : ℕ → List ℤ → (i j : ℕ) → ℤ
-value_in nx values i j = slice_index_or values (j * nx + i) (pos 0)
+value_in nx values i j = in_rows (pos 0) nx values i j
 
 abbrev pub value_at : AirNumbers → (i j : ℕ) → ℤ
 value_at air i j = value_in air.area.nx air.values i j
 
 -- the cells that are meant have their amounts after a step, and the others keep what was computed for them
-pub record Computes (area x : FieldNumbers) (IsMeant : ℕ → ℕ → Type 0) (old new : List ℤ) : Type 0 where
-  pub count : length new ≡ length old
-  pub meant : (i j : ℕ) → IsSpot area (CellAt i j) → IsMeant i j → value_in area.nx new i j ≡ next_at area x i j
-  pub others : (i j : ℕ) → IsSpot area (CellAt i j) → (IsMeant i j → ⊥) → value_in area.nx new i j ≡ value_in area.nx old i j
+abbrev pub Computes : (area x : FieldNumbers) → (IsMeant : ℕ → ℕ → Type 0) → (old new : List ℤ) → Type 0
+Computes area x IsMeant old new = ComputesFor (pos 0) area (next_at area x) IsMeant old new
 
 -- the cells have the computed amounts, and the holes keep theirs
 pub record Stores (air : AirNumbers) (old new : FieldNumbers) : Type 0 where

@@ -1,8 +1,8 @@
 // The cells of a piece along its edge.
 ghost use Rattle.std.specs.Prelude.{◌≡◌, ◌*◌, ◌<◌, ◌≤◌, length};
 ghost use Rattle.cpl_field.specs.Spots.{IsSameShape};
+ghost use Rattle.cpl_field.specs.Sweeps.{IsInSpan, IsRimOfRow};
 ghost use Rattle.cpl_atmos.specs.Sweeps.{AreAmounts, Computes, IsRim};
-ghost use Rattle.cpl_atmos.specs.Rows.{IsInSpan, IsRimOfRow};
 
 use crate::areas::Areas;
 use cpl_field::Field;
@@ -28,7 +28,7 @@ fn edge_row(areas: &Areas, x: &Field, j: u32, values: &mut [i64])
     requires shape { IsSameShape areas.now x.now }
     requires amounts { AreAmounts x.now }
     requires values { length values.old ≡ areas.now.nx * areas.now.ny }
-    ensures { Computes areas.now x.now (IsRimOfRow areas.now j) values.old values.new }
+    ensures { Computes areas.now x.now (IsRimOfRow 1 areas.now j) values.old values.new }
 {
     let nx = areas.nx;
     if j == 0 || j + 1 == areas.ny {

@@ -1,8 +1,9 @@
 // The cells of a piece that have no side on its edge.
 ghost use Rattle.std.specs.Prelude.{◌≡◌, ◌+◌, ◌-◌, ◌*◌, ◌^◌, ◌<◌, ◌≤◌, length, pos, ◌-ℤ◌, ◌<ℤ◌};
 ghost use Rattle.cpl_field.specs.Spots.{IsSameShape};
+ghost use Rattle.cpl_field.specs.Sweeps.{IsInSpan};
 ghost use Rattle.cpl_atmos.specs.Sweeps.{AreCellAmounts, Computes, IsInner, flow_out};
-ghost use Rattle.cpl_atmos.specs.Rows.{AreSouths, IsInSpan};
+ghost use Rattle.cpl_atmos.specs.Rows.{AreSouths};
 
 use crate::areas::{Areas, flow_across};
 use cpl_field::Field;

@@ -15,7 +15,8 @@ use Rattle.cpl_laws.proofs.Sums.{cells_same}
 use Rattle.cpl_laws.proofs.Elements.{ref_in, rows_in}
 use Rattle.cpl_laws.proofs.Flows.{rain_on_natural}
 use Rattle.cpl_laws.proofs.FastTotals.{added_sum, added_blocks, air_heat_with, air_vapour_with, land_heat_with, land_water_with, skin_heat_with, skin_water_with, category_with, some_category, category_natural, land_heat_natural, land_water_natural, skin_heat_natural, skin_water_natural, heat_kept, water_kept}
-use Rattle.cpl_laws.proofs.FastRanges.{cells_natural, categories_natural, stored_total, heat_after, vapour_after, heat_after_natural, vapour_after_natural, left_range, sun_strength_natural}
+use Rattle.cpl_laws.proofs.FastRanges.{cells_natural, categories_natural, heat_after, vapour_after, heat_after_natural, vapour_after_natural, left_range, sun_strength_natural}
+use Rattle.cpl_laws.proofs.Naturals.{are_natural}
 use Rattle.cpl_laws.proofs.FastKept.{heat_held, water_held, other_heat_natural, ice_and_more}
 
 -- between -2^63 and 2^63
@@ -47,9 +48,9 @@ module _ (s : Before) (is : IsNumbered s.grid) (air : IsAirMesh s.grid.air) (mat
   water_room =
       let held = water_held s.grid s.mid in
       let others = ice_and_more s is air mates can in
-      let ice = stored_total s.mid.whole.ice can.mid.whole.stored.ice in
+      let natural = are_natural s.grid s.mid can.mid in
       let most = can.water in
-      omega (arith, ints, held, others, ice, most)
+      omega (arith, ints, held, others, natural.ice, most)
 
   -- AFTER IT, WITHOUT THE SUN
 
@@ -138,13 +139,7 @@ module _ (s : Before) (is : IsNumbered s.grid) (air : IsAirMesh s.grid.air) (mat
   pub are_small : AreSmall s
   are_small =
       let room = has_room in
-      let h0 = stored_total s.mid.whole.air_heat can.mid.whole.stored.air_heat in
-      let h1 = stored_total s.mid.whole.land_heat can.mid.whole.stored.land_heat in
-      let h2 = stored_total s.mid.skin_heat can.mid.skin_heat.stored in
-      let h3 = stored_total s.mid.whole.ice_heat can.mid.whole.stored.ice_heat in
-      let w0 = stored_total s.mid.whole.air_vapour can.mid.whole.stored.air_vapour in
-      let w1 = stored_total s.mid.whole.land_water can.mid.whole.stored.land_water in
-      let w2 = stored_total s.mid.skin_water can.mid.skin_water.stored in
+      let natural = are_natural s.grid s.mid can.mid in
       let heat = heat_room in
       let water = water_room in
       let a = land_heat_took in
@@ -154,8 +149,8 @@ module _ (s : Before) (is : IsNumbered s.grid) (air : IsAirMesh s.grid.air) (mat
       let e = ice_heat_took in
       let f = heat_ice_took in
       record {
-        heat_land = (omega (arith, ints, a, room.land_heat.0, heat, h0, h2, h3), omega (arith, ints, a, room.land_heat.1, h1));
-        water_land = (omega (arith, ints, b, room.land_water.0, water, w0, w2), omega (arith, ints, b, room.land_water.1, w1));
-        heat_ice = (omega (arith, ints, c, e, f, room.skin_heat.0, room.ice_heat.0, heat, h0, h1), omega (arith, ints, c, e, f, room.skin_heat.1, room.ice_heat.1, h2, h3));
-        water_ice = (omega (arith, ints, d, room.skin_water.0, water, w0, w1), omega (arith, ints, d, room.skin_water.1, w2));
+        heat_land = (omega (arith, ints, a, room.land_heat.0, heat, natural.air_heat, natural.skin_heat, natural.ice_heat), omega (arith, ints, a, room.land_heat.1, natural.land_heat));
+        water_land = (omega (arith, ints, b, room.land_water.0, water, natural.air_vapour, natural.skin_water), omega (arith, ints, b, room.land_water.1, natural.land_water));
+        heat_ice = (omega (arith, ints, c, e, f, room.skin_heat.0, room.ice_heat.0, heat, natural.air_heat, natural.land_heat), omega (arith, ints, c, e, f, room.skin_heat.1, room.ice_heat.1, natural.skin_heat, natural.ice_heat));
+        water_ice = (omega (arith, ints, d, room.skin_water.0, water, natural.air_vapour, natural.land_water), omega (arith, ints, d, room.skin_water.1, natural.skin_water));
       }

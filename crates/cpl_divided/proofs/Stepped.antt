@@ -4,8 +4,8 @@ use Rattle.std.specs.Prelude.{ℤ}
 use Rattle.std.proofs.lemmas.Bool.{cases_eq}
 use Rattle.std.proofs.lemmas.List.{length-set}
 use Rattle.cpl_field.specs.Spots.{FieldNumbers, CellAt, IsSpot, IsSameShape}
+use Rattle.cpl_field.proofs.Swept.{is_inside}
 use Rattle.cpl_atmos.specs.Sweeps.{AirNumbers, Computes, IsInner, IsRim, Stores, value_at}
-use Rattle.cpl_atmos.proofs.Swept.{is_inner}
 use Rattle.cpl_divided.specs.Fields.{field_at}
 use Rattle.cpl_divided.specs.Steps.{Steps, StepsAll, area_of, KeepsAreas}
 
@@ -18,7 +18,7 @@ stepped area x new before inner whole last same shape interior rim stores = reco
       let ny = shape.ny in
       let on_area : IsSpot area (CellAt i j) = (omega arith, omega arith) in
       let value : value_at (record { area = last; values = whole }) i j ≡ value_at (record { area = area; values = whole }) i j = ap (λ (a : FieldNumbers). value_at (record { area = a; values = whole }) i j) same in
-      stores.cells i j on ∙ value ∙ elim (is_inner area i j) [
+      stores.cells i j on ∙ value ∙ elim (is_inside 1 area i j) [
         | inl is ↦ rim.others i j on_area (λ edge. edge is) ∙ interior.meant i j on_area is
         | inr edge ↦ rim.meant i j on_area edge
       ];

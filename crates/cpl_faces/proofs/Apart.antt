@@ -1,5 +1,5 @@
 -- Each side is of one face at most.
-use Rattle.std.proofs.Common.{◌≡◌, refl, sym, ◌∙◌, ap, ℕ, ◌<◌, arith, List, length, Some, inl, inr, ◌⊎◌}
+use Rattle.std.proofs.Common.{◌≡◌, sym, ◌∙◌, ap, ℕ, ◌<◌, arith, List, length, Some, inl, inr}
 use Rattle.std.proofs.lemmas.Bool.{cases_order}
 use Rattle.std.proofs.lemmas.List.{get_or_default}
 use Rattle.cpl_mosaic.specs.declared.parts.Side.{Side}
@@ -11,7 +11,7 @@ use Rattle.cpl_mosaic.specs.Sides.{CellSide, IsCellOf}
 use Rattle.cpl_mosaic.specs.Cells.{number_of, cell_of, NumbersAgree}
 use Rattle.cpl_mosaic.specs.Mates.{MatesAgree, mate_of}
 use Rattle.cpl_faces.specs.declared.face.Face.{Face}
-use Rattle.cpl_faces.specs.Faces.{rank, Comes, IsFace, face_of, face_in, Precedes, AreFaces, AreApart}
+use Rattle.cpl_faces.specs.Faces.{rank, IsFace, face_of, face_in, Precedes, AreFaces, AreApart}
 use Rattle.cpl_faces.proofs.Numbered.{ByNumber, by_number}
 
 abbrev no_face : Face

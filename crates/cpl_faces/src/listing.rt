@@ -5,23 +5,12 @@ ghost use Rattle.cpl_mosaic.specs.Lists.{MosaicLists};
 ghost use Rattle.cpl_mosaic.specs.Contacts.{cells_of};
 ghost use Rattle.cpl_mosaic.specs.Cells.{NumbersAgree};
 ghost use Rattle.cpl_mosaic.specs.Mates.{MatesAgree};
-ghost use Rattle.cpl_faces.specs.Faces.{AreApart, AreFaces, rank, is_in_order, face_from, faces_from, faces_of};
+ghost use Rattle.cpl_faces.specs.Faces.{AreApart, AreFaces, is_in_order, face_from, faces_from, faces_of};
 
 use crate::face::Face;
+use crate::sides::rank;
 use cpl_mosaic::{Mosaic, Side};
 use std::alloc::{AllocError, Global};
-
-// The place of a side in the order W, E, S, N.
-fn rank(side: Side) -> u32
-    ensures { result ≡ rank side }
-{
-    match side {
-        Side::W => 0,
-        Side::E => 1,
-        Side::S => 2,
-        Side::N => 3,
-    }
-}
 
 // Whether the first side comes first.
 fn is_in_order(face: Face) -> bool

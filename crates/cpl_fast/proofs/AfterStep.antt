@@ -68,6 +68,8 @@ module _ (grid : Grid) (whole other : Whole) (same : whole.parts ≡ other.parts
     ocean = elements_stay Ocean room.ocean.areas.items is.ocean;
     land_area = parts_stay Land room.land_area.items is.land_area;
     ocean_area = parts_stay Ocean room.ocean_area.items is.ocean_area;
+    land_clear = is.land_clear;
+    ocean_clear = is.ocean_clear;
   }
 
 -- room that changed its lists for those of the state before, for the state after
@@ -120,7 +122,7 @@ room_after s room other mid can is new held rest =
       skin_heat = skin_heat;
     } in
     divided_stays s.grid s.mid.whole mid.whole same other
-    (subst (IsDivided s.grid s.mid.whole) (sym rest) (record { room = fast; land = is.land; ocean = is.ocean; land_area = is.land_area; ocean_area = is.ocean_area }))
+    (subst (IsDivided s.grid s.mid.whole) (sym rest) (record { room = fast; land = is.land; ocean = is.ocean; land_area = is.land_area; ocean_area = is.ocean_area; land_clear = is.land_clear; ocean_clear = is.ocean_clear }))
 
 -- a step that can be made is lawful
 pub lawful_is : (s : Before) → CanStep s → IsNumbered s.grid → MatesAgree s.grid.air.mosaic

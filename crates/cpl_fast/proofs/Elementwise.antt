@@ -1,5 +1,5 @@
 -- Sums of flows in tables are sums over elements.
-use Rattle.std.proofs.Common.{◌≡◌, ◌∙◌, ap, ℕ, ◌+◌, ◌*◌, ◌<◌, List, length}
+use Rattle.std.proofs.Common.{◌≡◌, ◌∙◌, ap, ℕ, ◌<◌, List, length, arith}
 use Rattle.std.specs.Prelude.{ℤ}
 use Rattle.cpl_mosaic.specs.declared.parts.Tile.{Tile}
 use Rattle.cpl_mosaic.specs.Contacts.{cells_of}
@@ -20,6 +20,7 @@ use Rattle.cpl_laws.proofs.Sums.{cells_same}
 use Rattle.cpl_fast.specs.declared.flows.Flow.{Flow}
 use Rattle.cpl_fast.specs.Air.{refs_at}
 use Rattle.cpl_fast.specs.Flows.{flow_at}
+use Rattle.cpl_fast.specs.Places.{place_in}
 use Rattle.cpl_fast.specs.Rain.{in_list}
 use Rattle.cpl_fast.specs.Stages.{AreFlows, flow_of}
 use Rattle.cpl_fast.specs.Sums as sums
@@ -35,22 +36,25 @@ module _ (s : Before) (wet : XRef → ℕ → ℤ) (number : Flow → ℤ) where
 
   -- over the elements of a row
   pub row_is : (list : Surface) (flows : List Flow) → AreFlows s wet list flows → (m : ℕ) → m < length (rows_of s.grid.xgrid list)
-      → in_row flows (element_count s.grid list) m number ≡ over_elements s.grid each (record { list = list; row = m })
+      → in_row flows (length (rows_of s.grid.xgrid list)) (element_count s.grid list) m number ≡ over_elements s.grid each (record { list = list; row = m })
   row_is list flows are m l =
-      cells_same (λ k. number (flow_at flows (m * element_count s.grid list + k))) (each (record { list = list; row = m })) (element_count s.grid list)
+      cells_same (λ k. number (flow_at flows (place_in (length (rows_of s.grid.xgrid list)) m k))) (each (record { list = list; row = m })) (element_count s.grid list)
       (λ k h. ap number (are.each m k l h))
 
   -- over the elements of all rows of a list
   pub list_is : (list : Surface) (flows : List Flow) → AreFlows s wet list flows
-      → in_list flows (element_count s.grid list) (length (rows_of s.grid.xgrid list)) number ≡ over_rows s.grid list each
+      → in_list flows (length (rows_of s.grid.xgrid list)) (element_count s.grid list) number ≡ over_rows s.grid list each
   list_is list flows are =
-      cells_same (λ row. in_row flows (element_count s.grid list) row number) (λ m. over_elements s.grid each (record { list = list; row = m })) (length (rows_of s.grid.xgrid list))
+      cells_same (λ row. in_row flows (length (rows_of s.grid.xgrid list)) (element_count s.grid list) row number) (λ m. over_elements s.grid each (record { list = list; row = m })) (length (rows_of s.grid.xgrid list))
       (row_is list flows are)
 
   -- over the elements of a row of either list
   either_is : (land ocean : List Flow) → AreFlows s wet Land land → AreFlows s wet Ocean ocean → (list : Surface) (m : ℕ) → m < length (rows_of s.grid.xgrid list)
-      → sums.in_list land ocean (part_count s.grid) list m number ≡ over_elements s.grid each (record { list = list; row = m })
-  either_is land ocean of_land of_ocean Land m l = row_is Land land of_land m l
+      → sums.in_list land ocean (length s.grid.xgrid.ocean_rows) (part_count s.grid) list m number ≡ over_elements s.grid each (record { list = list; row = m })
+  either_is land ocean of_land of_ocean Land m l =
+      let count = of_land.count in
+      let rows : length land ≡ length s.grid.xgrid.land_rows = omega (arith, count) in
+      ap (λ (r : ℕ). in_row land r 1 m number) rows ∙ row_is Land land of_land m l
   either_is land ocean of_land of_ocean Ocean m l = row_is Ocean ocean of_ocean m l
 
 -- CELLS
@@ -71,20 +75,20 @@ surface_refs s is list n = ap (λ (tiles : List Tile). refs_of_other list (rows_
 module _ (s : Before) (is : IsNumbered s.grid) (wet : XRef → ℕ → ℤ) (number : Flow → ℤ) where
   -- over all elements of a cell of the air
   pub air_is : (land ocean : List Flow) → AreFlows s wet Land land → AreFlows s wet Ocean ocean → (n : ℕ) → n < air_cells s.grid
-      → in_rows land ocean (part_count s.grid) (refs_at s.grid.xgrid n) number ≡ over_all s.grid (each s wet number) (refs_of_air_cell s.grid n)
+      → in_rows land ocean (length s.grid.xgrid.ocean_rows) (part_count s.grid) (refs_at s.grid.xgrid n) number ≡ over_all s.grid (each s wet number) (refs_of_air_cell s.grid n)
   air_is land ocean of_land of_ocean n l =
-      let one = λ (ref : XRef). sums.in_list land ocean (part_count s.grid) ref.list ref.row number in
+      let one = λ (ref : XRef). sums.in_list land ocean (length s.grid.xgrid.ocean_rows) (part_count s.grid) ref.list ref.row number in
       let other = over_elements s.grid (each s wet number) in
-      ap (λ (refs : List XRef). in_rows land ocean (part_count s.grid) refs number) (air_refs s is n)
+      ap (λ (refs : List XRef). in_rows land ocean (length s.grid.xgrid.ocean_rows) (part_count s.grid) refs number) (air_refs s is n)
       ∙ total_same one other (refs_of_air_cell s.grid n)
       (each_of_air s.grid is (λ (ref : XRef). one ref ≡ other ref) n l (λ list m h e. either_is s wet number land ocean of_land of_ocean list m h))
 
   -- over the elements of part k of a cell of a surface
   pub part_is : (list : Surface) (flows : List Flow) → AreFlows s wet list flows → (n k : ℕ) → n < cells_of (tiles_of s.grid list) → k < element_count s.grid list
-      → in_part flows (element_count s.grid list) k (refs_on s.grid.xgrid list n) number ≡ over_part (each s wet number) k (refs_of_surface_cell s.grid list n)
+      → in_part flows (length (rows_of s.grid.xgrid list)) k (refs_on s.grid.xgrid list n) number ≡ over_part (each s wet number) k (refs_of_surface_cell s.grid list n)
   part_is list flows are n k l h =
-      let one = λ (ref : XRef). number (flow_at flows (ref.row * element_count s.grid list + k)) in
+      let one = λ (ref : XRef). number (flow_at flows (place_in (length (rows_of s.grid.xgrid list)) ref.row k)) in
       let other = λ (ref : XRef). each s wet number ref k in
-      ap (λ (refs : List XRef). in_part flows (element_count s.grid list) k refs number) (surface_refs s is list n)
+      ap (λ (refs : List XRef). in_part flows (length (rows_of s.grid.xgrid list)) k refs number) (surface_refs s is list n)
       ∙ total_same one other (refs_of_surface_cell s.grid list n)
       (each_of_surface s.grid is (λ (ref : XRef). one ref ≡ other ref) list n l (λ m r e. ap number (are.each m k r h)))

@@ -1,6 +1,6 @@
 -- What flows by the tables is what flows through the elements.
-use Rattle.std.proofs.Common.{◌≡◌, ◌∙◌, refl, sym, ap, ℕ, zero, suc, ◌+◌, ◌*◌, ◌<◌, ◌≤◌, arith, List, length, take}
-use Rattle.std.specs.Prelude.{pos, ◌+ℤ◌}
+use Rattle.std.proofs.Common.{inl, inr, ◌≢◌, ◌≡◌, ◌∙◌, refl, sym, ap, ℕ, zero, suc, ◌+◌, ◌*◌, ◌<◌, ◌≤◌, arith, List, length, take}
+use Rattle.std.specs.Prelude.{ℤ, pos, ◌+ℤ◌}
 use Rattle.std.proofs.lemmas.Int.{ints}
 use Rattle.cpl_fixed.specs.Amounts.{at}
 use Rattle.cpl_fixed.specs.Totals.{total_of}
@@ -11,16 +11,19 @@ use Rattle.cpl_xgrid.specs.Rows.{rows_of}
 use Rattle.cpl_restart.specs.States.{air_side}
 use Rattle.cpl_restart.specs.Elements.{air_number, surface_number, element_count, element_area, areas_in, area_before, share_at}
 use Rattle.cpl_restart.specs.FastStep.{Before, albedo, flux, heat_down, water_up, absorbed, surface_part, sun_on}
-use Rattle.cpl_restart.specs.FastLaws.{CanStep}
+use Rattle.cpl_restart.specs.FastLaws.{CanStep, IsPlaced}
 use Rattle.cpl_diffusion.proofs.Sums.{sum_to, total_range}
 use Rattle.cpl_laws.specs.Once.{IsNumbered}
 use Rattle.cpl_laws.proofs.Elements.{air_below, surface_below}
 use Rattle.cpl_laws.proofs.Areas.{areas_are}
 use Rattle.cpl_fast.specs.declared.flows.Sky.{Sky}
 use Rattle.cpl_fast.specs.declared.flows.Tables.{Tables}
+use Rattle.cpl_fast.specs.declared.flows.WarmPart.{WarmPart}
 use Rattle.cpl_fast.specs.Flows.{area_in, before_in, flow_in, flow_through, part_in, sky_at, sky_of, warm_at}
+use Rattle.cpl_fast.specs.Places.{place_in}
 use Rattle.cpl_fast.specs.Tables.{warm_part}
 use Rattle.cpl_fast.specs.Filled.{AreTables, AreSkies}
+use Rattle.cpl_fast.proofs.Nothing.{nothing_through, zero_or_not}
 
 module _ (s : Before) (list : Surface) (tables : Tables) (skies : List Sky) (are : AreTables s list tables) (seen : AreSkies s skies)
     (is : IsNumbered s.grid) (can : CanStep s) (m k : ℕ) (l : m < length (rows_of s.grid.xgrid list)) (h : k < element_count s.grid list) where
@@ -32,11 +35,12 @@ module _ (s : Before) (list : Surface) (tables : Tables) (skies : List Sky) (are
   pub sky_found : sky_of skies tables m ≡ record { air = air_side s.grid s.mid.whole (air_number s.grid (record { list = list; row = m })); weather = weather s.rates (air_side s.grid s.mid.whole (air_number s.grid (record { list = list; row = m }))); sun = sun_on s (air_number s.grid (record { list = list; row = m })) }
   sky_found = ap (sky_at skies) (are.links.each m l).air ∙ seen.each (air_number s.grid (record { list = list; row = m })) (air_below s.grid is list m l)
 
-  -- its part
-  pub part_found : part_in tables m k ≡ warm_part s.rates (surface_part s.grid s.mid list (surface_number s.grid (record { list = list; row = m })) k)
-  part_found =
-      (λ i. warm_at tables.parts.items ((are.links.each m l).surface i * are.width i + k))
-      ∙ are.parts (surface_number s.grid (record { list = list; row = m })) k (surface_below s.grid is list m l) h
+  -- its part, which has an area
+  pub part_found : (surface_part s.grid s.mid list (surface_number s.grid (record { list = list; row = m })) k).area ≢ pos 0
+      → part_in tables m k ≡ warm_part s.rates (surface_part s.grid s.mid list (surface_number s.grid (record { list = list; row = m })) k)
+  part_found some =
+      (λ i. warm_at tables.parts.items (place_in (are.cells i) ((are.links.each m l).surface i) k))
+      ∙ are.parts (surface_number s.grid (record { list = list; row = m })) k (surface_below s.grid is list m l) h some
 
 -- the areas before an element
 module _ (s : Before) (list : Surface) (tables : Tables) (are : AreTables s list tables) (is : IsNumbered s.grid) (can : CanStep s) (m : ℕ) (l : m < length (rows_of s.grid.xgrid list)) where
@@ -60,13 +64,34 @@ module _ (s : Before) (list : Surface) (tables : Tables) (are : AreTables s list
 
 -- what flows through an element by its table
 module _ (s : Before) (list : Surface) (tables : Tables) (skies : List Sky) (are : AreTables s list tables) (seen : AreSkies s skies)
-    (is : IsNumbered s.grid) (can : CanStep s) (m k : ℕ) (l : m < length (rows_of s.grid.xgrid list)) (h : k < element_count s.grid list) where
+    (is : IsNumbered s.grid) (can : CanStep s) (m k : ℕ) (l : m < length (rows_of s.grid.xgrid list)) (h : k < element_count s.grid list)
+    (placed : IsPlaced s (record { list = list; row = m }) k) where
+  abbrev surface : WarmPart
+  surface = warm_part s.rates (surface_part s.grid s.mid list (surface_number s.grid (record { list = list; row = m })) k)
+
+  -- an element that has an area lies in a part that has one
+  pub some_part : area_in tables m k ≢ pos 0 → surface.part.area ≢ pos 0
+  some_part some e =
+      let area = area_found s list tables skies are seen is can m k l h in
+      let least = placed.element.least in
+      let most = placed.element.in_part in
+      some (omega (arith, ints, area, least, most, e))
+
+  -- what flows is the same with its part, which stands in the table where the element has an area
+  with_part : (sky : Sky) (albedo from : ℤ) → flow_through s.rates sky (part_in tables m k) albedo (area_in tables m k) from ≡ flow_through s.rates sky surface albedo (area_in tables m k) from
+  with_part sky albedo from = elim (zero_or_not (area_in tables m k)) [
+    | inl e ↦
+        (λ i. flow_through s.rates sky (part_in tables m k) albedo (e i) from) ∙ nothing_through s.rates sky (part_in tables m k) albedo from
+        ∙ sym (nothing_through s.rates sky surface albedo from) ∙ (λ i. flow_through s.rates sky surface albedo (sym e i) from)
+    | inr some ↦ (λ i. flow_through s.rates sky (part_found s list tables skies are seen is can m k l h (some_part some) i) albedo (area_in tables m k) from)
+  ]
+
   pub flow_found : flow_in s.rates list (sky_of skies tables m) tables m k
       ≡ record { heat = heat_down s (record { list = list; row = m }) k; water = water_up s (record { list = list; row = m }) k; sun = absorbed s (record { list = list; row = m }) k; rain = pos 0 }
   unfolding flow_in flux absorbed share_at
   flow_found =
       let sky = sky_found s list tables skies are seen is can m k l h in
-      let part = part_found s list tables skies are seen is can m k l h in
       let area = area_found s list tables skies are seen is can m k l h in
       let before = before_found s list tables are is can m l k h in
-      λ i. flow_through s.rates (sky i) (part i) (albedo s.rates list k) (area i) (before i)
+      with_part (sky_of skies tables m) (albedo s.rates list k) (before_in tables m k)
+      ∙ (λ i. flow_through s.rates (sky i) surface (albedo s.rates list k) (area i) (before i))

@@ -16,7 +16,8 @@ use Rattle.cpl_restart.specs.FastStep.{Before, surface_part}
 use Rattle.cpl_restart.specs.FastLaws.{CanStep}
 use Rattle.cpl_laws.specs.Once.{IsNumbered}
 use Rattle.cpl_laws.proofs.Areas.{part_natural, part_most}
-use Rattle.cpl_laws.proofs.FastRanges.{stored_total, sun_strength_natural}
+use Rattle.cpl_laws.proofs.FastRanges.{sun_strength_natural}
+use Rattle.cpl_laws.proofs.Naturals.{are_natural}
 use Rattle.cpl_laws.proofs.FastKept.{heat_held, water_held, other_heat_natural, ice_and_more}
 use Rattle.cpl_laws.proofs.Held.{stored_amount}
 use Rattle.cpl_fast.proofs.Making.{mesh_most}
@@ -42,25 +43,18 @@ module _ (s : Before) (is : IsNumbered s.grid) (air : IsAirMesh s.grid.air) (mat
       let others = other_heat_natural s is air mates can in
       let ice = ice_and_more s is air mates can in
       let sun = sun_strength_natural s is air can in
-      let h0 = stored_total s.mid.whole.air_heat can.mid.whole.stored.air_heat in
-      let h1 = stored_total s.mid.whole.land_heat can.mid.whole.stored.land_heat in
-      let h2 = stored_total s.mid.skin_heat can.mid.skin_heat.stored in
-      let h3 = stored_total s.mid.whole.ice_heat can.mid.whole.stored.ice_heat in
-      let w0 = stored_total s.mid.whole.air_vapour can.mid.whole.stored.air_vapour in
-      let w1 = stored_total s.mid.whole.land_water can.mid.whole.stored.land_water in
-      let w2 = stored_total s.mid.skin_water can.mid.skin_water.stored in
-      let w3 = stored_total s.mid.whole.ice can.mid.whole.stored.ice in
+      let natural = are_natural s.grid s.mid can.mid in
       let held : (total_of s.mid.whole.air_heat +ℤ total_of s.mid.whole.land_heat +ℤ total_of s.mid.skin_heat +ℤ total_of s.mid.whole.ice_heat) ≤ℤ pos MOST_TOTAL = omega (arith, ints, heat, most_heat, others, sun) in
       let held_water : (total_of s.mid.whole.air_vapour +ℤ total_of s.mid.whole.land_water +ℤ total_of s.mid.skin_water +ℤ total_of s.mid.whole.ice) ≤ℤ pos MOST_TOTAL = omega (arith, ints, water, most_water, ice) in
       record {
-        air_heat = omega (arith, ints, held, h1, h2, h3);
-        land_heat = omega (arith, ints, held, h0, h2, h3);
-        skin_heat = omega (arith, ints, held, h0, h1, h3);
-        ice_heat = omega (arith, ints, held, h0, h1, h2);
-        vapour = omega (arith, ints, held_water, w1, w2, w3);
-        land_water = omega (arith, ints, held_water, w0, w2, w3);
-        skin_water = omega (arith, ints, held_water, w0, w1, w3);
-        ice = omega (arith, ints, held_water, w0, w1, w2);
+        air_heat = omega (arith, ints, held, natural.land_heat, natural.skin_heat, natural.ice_heat);
+        land_heat = omega (arith, ints, held, natural.air_heat, natural.skin_heat, natural.ice_heat);
+        skin_heat = omega (arith, ints, held, natural.air_heat, natural.land_heat, natural.ice_heat);
+        ice_heat = omega (arith, ints, held, natural.air_heat, natural.land_heat, natural.skin_heat);
+        vapour = omega (arith, ints, held_water, natural.land_water, natural.skin_water, natural.ice);
+        land_water = omega (arith, ints, held_water, natural.air_vapour, natural.skin_water, natural.ice);
+        skin_water = omega (arith, ints, held_water, natural.air_vapour, natural.land_water, natural.ice);
+        ice = omega (arith, ints, held_water, natural.air_vapour, natural.land_water, natural.skin_water);
       }
 
   area_in_range : (list : Surface) (n k : ℕ) → n < cells_of (tiles_of s.grid list) → k < element_count s.grid list

@@ -8,16 +8,17 @@ use Rattle.cpl_restart.specs.FastStep.{Before}
 use Rattle.cpl_fast.specs.declared.room.FastRoom.{FastRoom}
 use Rattle.cpl_fast.specs.Rooms.{IsFastRoom}
 use Rattle.cpl_fast.specs.Stages.{IsSeen}
+use Rattle.cpl_fast.specs.Sums.{AreClear}
 
 module _ (s : Before) (old new : FastRoom) where
   pub keep_flows : IsSeen s old → new ≡ record old { land_flows = new.land_flows; ocean_flows = new.ocean_flows }
       → length new.land_flows.items ≡ length (rows_of s.grid.xgrid Land) → length new.ocean_flows.items ≡ length (rows_of s.grid.xgrid Ocean) * element_count s.grid Ocean
-      → IsSeen s new
-  keep_flows seen rest land ocean =
+      → AreClear old.land new.land_flows.items → AreClear old.ocean new.ocean_flows.items → IsSeen s new
+  keep_flows seen rest land ocean land_clear ocean_clear =
       let fast : IsFastRoom s.grid (record old { land_flows = new.land_flows; ocean_flows = new.ocean_flows }) = search rules in
       let now : IsSeen s (record old { land_flows = new.land_flows; ocean_flows = new.ocean_flows }) = record {
         lawful = seen.lawful;
-        room = record { room = fast; land = seen.room.land; ocean = seen.room.ocean; land_area = seen.room.land_area; ocean_area = seen.room.ocean_area };
+        room = record { room = fast; land = seen.room.land; ocean = seen.room.ocean; land_area = seen.room.land_area; ocean_area = seen.room.ocean_area; land_clear = land_clear; ocean_clear = ocean_clear };
         land = seen.land;
         ocean = seen.ocean;
         skies = seen.skies;
@@ -31,7 +32,7 @@ module _ (s : Before) (old new : FastRoom) where
       let fast : IsFastRoom s.grid (record old { land_heat = new.land_heat; land_water = new.land_water }) = search rules in
       let now : IsSeen s (record old { land_heat = new.land_heat; land_water = new.land_water }) = record {
         lawful = seen.lawful;
-        room = record { room = fast; land = seen.room.land; ocean = seen.room.ocean; land_area = seen.room.land_area; ocean_area = seen.room.ocean_area };
+        room = record { room = fast; land = seen.room.land; ocean = seen.room.ocean; land_area = seen.room.land_area; ocean_area = seen.room.ocean_area; land_clear = seen.room.land_clear; ocean_clear = seen.room.ocean_clear };
         land = seen.land;
         ocean = seen.ocean;
         skies = seen.skies;
@@ -45,7 +46,7 @@ module _ (s : Before) (old new : FastRoom) where
       let fast : IsFastRoom s.grid (record old { ice_heat = new.ice_heat; skin_heat = new.skin_heat; skin_water = new.skin_water }) = search rules in
       let now : IsSeen s (record old { ice_heat = new.ice_heat; skin_heat = new.skin_heat; skin_water = new.skin_water }) = record {
         lawful = seen.lawful;
-        room = record { room = fast; land = seen.room.land; ocean = seen.room.ocean; land_area = seen.room.land_area; ocean_area = seen.room.ocean_area };
+        room = record { room = fast; land = seen.room.land; ocean = seen.room.ocean; land_area = seen.room.land_area; ocean_area = seen.room.ocean_area; land_clear = seen.room.land_clear; ocean_clear = seen.room.ocean_clear };
         land = seen.land;
         ocean = seen.ocean;
         skies = seen.skies;

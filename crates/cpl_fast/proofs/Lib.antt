@@ -1,5 +1,7 @@
 pub mod Parts
+pub mod Nothing
 pub mod Small
+pub mod Placed
 pub mod Places
 pub mod Linked
 pub mod Found
@@ -16,3 +18,4 @@ pub mod Keeping
 pub mod Dividing
 pub mod Looking
 pub mod ToSurface
+pub mod Empty

@@ -10,6 +10,7 @@ use Rattle.cpl_fixed.specs.declared.rates.Rates.{Rates}
 use Rattle.cpl_fixed.specs.Amounts.{IsAmount, at}
 use Rattle.cpl_fixed.specs.Shares.{part_of}
 use Rattle.cpl_flux.specs.declared.parts.Kind.TheVariants as kind
+use Rattle.cpl_flux.specs.declared.parts.Part.{Part}
 use Rattle.cpl_flux.specs.Elements.{IsAirSide, IsPart}
 use Rattle.cpl_mosaic.specs.Mates.{MatesAgree}
 use Rattle.cpl_xgrid.specs.declared.parts.Surface.TheVariants.{Land, Ocean}
@@ -24,7 +25,8 @@ use Rattle.cpl_fast.specs.declared.flows.Sky.{Sky}
 use Rattle.cpl_fast.specs.declared.flows.Tables.{Tables}
 use Rattle.cpl_fast.specs.declared.flows.WarmPart.{WarmPart}
 use Rattle.cpl_fast.specs.Flows.{sky_at, warm_at}
-use Rattle.cpl_fast.specs.Tables.{AreLinks, land_by, ocean_by, part_by, side_of, sky_by, warm_part}
+use Rattle.cpl_fast.specs.Tables.{AreLinks, StandsFor, land_by, ocean_by, part_by, side_of, sky_by, warm_part}
+use Rattle.cpl_fast.specs.Places.{place_in}
 use Rattle.cpl_fast.specs.Filled.{AreElementAreas, AreSkies, AreTables}
 use Rattle.cpl_fast.specs.Rooms.{ArePartAreas, HasTables}
 use Rattle.cpl_fast.proofs.InRange.{part_in_range, air_in_range}
@@ -57,21 +59,24 @@ module _ (s : Before) (is : IsNumbered s.grid) (mates : MatesAgree s.grid.air.mo
     land_in_range n l = subst IsPart (sym (land_part_is n l)) (part_in_range s is can.air mates can Land n 0 l (omega arith))
 
     pub land_seen : (parts : List WarmPart) → ((n : ℕ) → n < land_cells s.grid → warm_at parts n ≡ warm_part s.rates (land_by heat water area n))
-        → (n k : ℕ) → n < land_cells s.grid → k < 1 → warm_at parts (n * 1 + k) ≡ warm_part s.rates (surface_part s.grid s.mid Land n k)
+        → (n k : ℕ) → n < land_cells s.grid → k < 1 → warm_at parts (place_in (land_cells s.grid) n k) ≡ warm_part s.rates (surface_part s.grid s.mid Land n k)
     land_seen parts value n k l h =
-        let place : n * 1 + k ≡ n = omega (arith, h) in
+        let none : k ≡ 0 = omega (arith, h) in
+        let first = ap (λ (j : ℕ). j * land_cells s.grid) none in
+        let place : place_in (land_cells s.grid) n k ≡ n = omega (arith, first) in
         ap (warm_at parts) place ∙ value n l ∙ ap (warm_part s.rates) (land_part_is n l)
 
     -- tables in which they were written
     pub land_tables : (tables : Tables) → HasTables s.grid Land tables → AreElementAreas s.grid s.mid.whole Land tables.areas.items → (new : List WarmPart) (written : Tables)
-        → written.width ≡ tables.width → written.links.items ≡ tables.links.items → written.areas.items ≡ tables.areas.items → written.parts.items ≡ new
+        → written.width ≡ tables.width → written.cells ≡ tables.cells → written.links.items ≡ tables.links.items → written.areas.items ≡ tables.areas.items → written.parts.items ≡ new
         → length new ≡ length tables.parts.items → ((n : ℕ) → n < length tables.parts.items → warm_at new n ≡ warm_part s.rates (land_by heat water area n)) → AreTables s Land written
-    land_tables tables has areas new written width links same parts count value = record {
+    land_tables tables has areas new written width cells links same parts count value = record {
       width = width ∙ has.width;
+      cells = cells ∙ has.cells;
       links = subst (AreLinks s.grid Land) (sym links) has.links;
       areas = subst (AreElementAreas s.grid s.mid.whole Land) (sym same) areas;
       count = ap length parts ∙ count ∙ has.parts;
-      parts = λ n k l h. ap (λ (xs : List WarmPart). warm_at xs (n * 1 + k)) parts ∙ land_seen new (λ n l. value n (let e = has.parts in omega (arith, e, l))) n k l h;
+      parts = λ n k l h some. ap (λ (xs : List WarmPart). warm_at xs (place_in (land_cells s.grid) n k)) parts ∙ land_seen new (λ n l. value n (let e = has.parts in omega (arith, e, l))) n k l h;
     }
 
   -- THE OCEAN'S MOSAIC
@@ -93,22 +98,25 @@ module _ (s : Before) (is : IsNumbered s.grid) (mates : MatesAgree s.grid.air.mo
     ocean_in_range n k l h = subst IsPart (sym (ocean_part_is n k l h)) (part_in_range s is can.air mates can Ocean n k l h)
 
     pub ocean_seen : (parts : List WarmPart)
-        → ((n k : ℕ) → n < ocean_cells s.grid → k < part_count s.grid → warm_at parts (n * part_count s.grid + k) ≡ warm_part s.rates (ocean_by heat water ice_heat ice area (categories s.grid) n k))
-        → (n k : ℕ) → n < ocean_cells s.grid → k < part_count s.grid → warm_at parts (n * part_count s.grid + k) ≡ warm_part s.rates (surface_part s.grid s.mid Ocean n k)
-    ocean_seen parts value n k l h = value n k l h ∙ ap (warm_part s.rates) (ocean_part_is n k l h)
+        → ((n k : ℕ) → n < ocean_cells s.grid → k < part_count s.grid → StandsFor s.rates (ocean_by heat water ice_heat ice area (categories s.grid) n k) (warm_at parts (place_in (ocean_cells s.grid) n k)))
+        → (n k : ℕ) → n < ocean_cells s.grid → k < part_count s.grid → StandsFor s.rates (surface_part s.grid s.mid Ocean n k) (warm_at parts (place_in (ocean_cells s.grid) n k))
+    ocean_seen parts value n k l h = subst (λ (part : Part). StandsFor s.rates part (warm_at parts (place_in (ocean_cells s.grid) n k))) (ocean_part_is n k l h) (value n k l h)
 
     pub ocean_tables : (tables : Tables) → HasTables s.grid Ocean tables → AreElementAreas s.grid s.mid.whole Ocean tables.areas.items → (new : List WarmPart) (written : Tables)
-        → written.width ≡ tables.width → written.links.items ≡ tables.links.items → written.areas.items ≡ tables.areas.items → written.parts.items ≡ new
+        → written.width ≡ tables.width → written.cells ≡ tables.cells → written.links.items ≡ tables.links.items → written.areas.items ≡ tables.areas.items → written.parts.items ≡ new
         → length new ≡ length tables.parts.items
-        → ((n k : ℕ) → n < length heat → k < part_count s.grid → warm_at new (n * part_count s.grid + k) ≡ warm_part s.rates (ocean_by heat water ice_heat ice area (categories s.grid) n k))
+        → ((n k : ℕ) → n < length heat → k < part_count s.grid → StandsFor s.rates (ocean_by heat water ice_heat ice area (categories s.grid) n k) (warm_at new (place_in (length heat) n k)))
         → AreTables s Ocean written
-    ocean_tables tables has areas new written width links same parts count value = record {
+    ocean_tables tables has areas new written width cells links same parts count value = record {
       width = width ∙ has.width;
+      cells = cells ∙ has.cells;
       links = subst (AreLinks s.grid Ocean) (sym links) has.links;
       areas = subst (AreElementAreas s.grid s.mid.whole Ocean) (sym same) areas;
       count = ap length parts ∙ count ∙ has.parts;
-      parts = λ n k l h. ap (λ (xs : List WarmPart). warm_at xs (n * part_count s.grid + k)) parts
-          ∙ ocean_seen new (λ n k l h. value n k (let e = ap length heat_is in let count = can.mid.skin_heat.count in omega (arith, e, count, l)) h) n k l h;
+      parts = λ n k l h some. ap (λ (xs : List WarmPart). warm_at xs (place_in (ocean_cells s.grid) n k)) parts
+          ∙ ocean_seen new (λ n k l h. (
+          let long = ap length heat_is ∙ can.mid.skin_heat.count in
+          subst (λ (cells : ℕ). StandsFor s.rates (ocean_by heat water ice_heat ice area (categories s.grid) n k) (warm_at new (place_in cells n k))) long (value n k (omega (arith, long, l)) h))) n k l h some;
     }
 
   -- THE AIR

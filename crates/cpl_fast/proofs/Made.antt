@@ -8,10 +8,10 @@ use Rattle.cpl_fast.specs.Sums.{SumsAre, both_taken, in_part, sums_in}
 use Rattle.cpl_fast.specs.Surfaces.{taken_to}
 use Rattle.cpl_fast.proofs.Places.{total_more}
 
-pub made_in : (sums : Sums) (flows : List Flow) (width k : ℕ) (refs other : List XRef) → refs ≡ other → SumsAre sums (in_part flows width k refs) → sums ≡ sums_in flows width k other
+pub made_in : (sums : Sums) (flows : List Flow) (rows k : ℕ) (refs other : List XRef) → refs ≡ other → SumsAre sums (in_part flows rows k refs) → sums ≡ sums_in flows rows k other
 unfolding sums_in
-made_in sums flows width k refs other e are =
-    let here : SumsAre sums (in_part flows width k other) = subst (λ (r : List XRef). SumsAre sums (in_part flows width k r)) e are in
+made_in sums flows rows k refs other e are =
+    let here : SumsAre sums (in_part flows rows k other) = subst (λ (r : List XRef). SumsAre sums (in_part flows rows k r)) e are in
     λ i. record { heat = here.heat i; water = here.water i; sun = here.sun i; rain = here.rain i }
 
 -- what one cell more takes

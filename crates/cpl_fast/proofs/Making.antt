@@ -1,5 +1,5 @@
 -- What the tables hold is what the definitions have: the areas of elements and of parts, and the parts of the surface.
-use Rattle.std.proofs.Common.{◌≡◌, ◌∙◌, sym, ap, subst, ℕ, zero, suc, ◌+◌, ◌-◌, ◌*◌, ◌<◌, ◌≤◌, arith, List, length, take, drop}
+use Rattle.std.proofs.Common.{◌≡◌, ◌∙◌, sym, ap, subst, ℕ, ◌+◌, ◌-◌, ◌*◌, ◌<◌, ◌≤◌, arith, List, length, take, drop}
 use Rattle.std.specs.Prelude.{ℤ, pos, ◌≤ℤ◌, All, slice_range}
 use Rattle.std.proofs.lemmas.Int.{ints}
 use Rattle.std.proofs.lemmas.Nat.{mul-le}
@@ -20,10 +20,9 @@ use Rattle.cpl_xgrid.specs.declared.parts.Surface.TheVariants.{Land, Ocean}
 use Rattle.cpl_xgrid.specs.Rows.{refs_of_other, rows_of}
 use Rattle.cpl_mosaic.specs.Cells.{cell_of}
 use Rattle.cpl_restart.specs.declared.whole.Whole.{Whole}
-use Rattle.cpl_restart.specs.States.{air_cells, all_of_cell, categories, of_cell, ocean_cells, part_count, IsWhole}
+use Rattle.cpl_restart.specs.States.{air_cells, all_of_cell, of_cell, ocean_cells, part_count, IsWhole}
 use Rattle.cpl_restart.specs.Elements.{tiles_of, surface_number, element_count, element_area, areas_in, part_area, refs_of_surface_cell}
-use Rattle.cpl_restart.specs.FastStep.{Before, surface_part, sun_on}
-use Rattle.cpl_flux.specs.declared.parts.Kind.TheVariants as kind
+use Rattle.cpl_restart.specs.FastStep.{Before, sun_on}
 use Rattle.cpl_laws.specs.Once.{IsNumbered}
 use Rattle.cpl_laws.specs.Cells.{mesh_of}
 use Rattle.cpl_laws.proofs.Groups.{total_same}
@@ -31,9 +30,8 @@ use Rattle.cpl_laws.proofs.Elements.{ref_in, row_area, surface_below, each_of_su
 use Rattle.cpl_laws.proofs.Areas.{parts_natural, part_most, wet}
 use Rattle.cpl_fast.specs.declared.flows.Link.{Link}
 use Rattle.cpl_fast.specs.declared.flows.Sky.{Sky}
-use Rattle.cpl_fast.specs.declared.flows.WarmPart.{WarmPart}
-use Rattle.cpl_fast.specs.Flows.{link_at, sky_at, warm_at}
-use Rattle.cpl_fast.specs.Tables.{AreLinks, CanSumAreas, area_over, cells_on, land_by, ocean_by, part_by, parts_of, row_in, sky_by, warm_part}
+use Rattle.cpl_fast.specs.Flows.{link_at, sky_at}
+use Rattle.cpl_fast.specs.Tables.{AreLinks, CanSumAreas, area_over, cells_on, parts_of, row_in, sky_by}
 use Rattle.cpl_fast.specs.Filled.{AreElementAreas, AreSkies}
 
 -- the numbers of a cell stand together in the list
@@ -149,28 +147,6 @@ module _ (grid : Grid) (is : IsNumbered grid) (whole : Whole) (lawful : IsWhole 
 -- PARTS AND SKIES
 
 module _ (s : Before) where
-  pub land_parts_are : (area : List ℤ) (parts : List WarmPart)
-      → ((n : ℕ) → n < cells_of s.grid.land.mosaic.tiles → at area n ≡ part_area s.grid s.mid.whole Land n 0)
-      → ((n : ℕ) → n < cells_of s.grid.land.mosaic.tiles → warm_at parts n ≡ warm_part s.rates (land_by s.mid.whole.land_heat s.mid.whole.land_water area n))
-      → (n k : ℕ) → n < cells_of s.grid.land.mosaic.tiles → k < 1 → warm_at parts (n * 1 + k) ≡ warm_part s.rates (surface_part s.grid s.mid Land n k)
-  land_parts_are area parts areas value n k l h =
-      let place : n * 1 + k ≡ n = omega (arith, h) in
-      ap (warm_at parts) place ∙ value n l ∙ ap (λ (a : ℤ). warm_part s.rates (part_by kind.Land (at s.mid.whole.land_heat n) (at s.mid.whole.land_water n) a)) (areas n l)
-
-  pub ocean_parts_are : (area : List ℤ) (parts : List WarmPart)
-      → ((n k : ℕ) → n < cells_of s.grid.ocean.mosaic.tiles → k < part_count s.grid → at area (n * part_count s.grid + k) ≡ part_area s.grid s.mid.whole Ocean n k)
-      → ((n k : ℕ) → n < cells_of s.grid.ocean.mosaic.tiles → k < part_count s.grid
-      → warm_at parts (n * part_count s.grid + k) ≡ warm_part s.rates (ocean_by s.mid.skin_heat s.mid.skin_water s.mid.whole.ice_heat s.mid.whole.ice area (categories s.grid) n k))
-      → (n k : ℕ) → n < cells_of s.grid.ocean.mosaic.tiles → k < part_count s.grid → warm_at parts (n * part_count s.grid + k) ≡ warm_part s.rates (surface_part s.grid s.mid Ocean n k)
-  unfolding ocean_by
-  ocean_parts_are area parts areas value n zero l h =
-      let place : n * part_count s.grid ≡ n * part_count s.grid + 0 = omega arith in
-      value n 0 l h ∙ ap (λ (a : ℤ). warm_part s.rates (part_by kind.Water (at s.mid.skin_heat n) (at s.mid.skin_water n) a)) (ap (at area) place ∙ areas n 0 l h)
-  ocean_parts_are area parts areas value n (suc k) l h =
-      let place : n * part_count s.grid + 1 + k ≡ n * part_count s.grid + suc k = omega arith in
-      value n (suc k) l h
-      ∙ ap (λ (a : ℤ). warm_part s.rates (part_by kind.Ice (of_cell (categories s.grid) n k s.mid.whole.ice_heat) (of_cell (categories s.grid) n k s.mid.whole.ice) a)) (ap (at area) place ∙ areas n (suc k) l h)
-
   pub skies_are : (skies : List Sky) → length skies ≡ air_cells s.grid
       → ((n : ℕ) → n < air_cells s.grid → sky_at skies n ≡ sky_by s.rates (at s.rates.month (s.month - 1)) s.mid.whole.air_heat s.mid.whole.air_vapour s.grid.air.area s.mid.whole.air_sun n)
       → AreSkies s skies

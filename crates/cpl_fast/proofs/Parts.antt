@@ -59,3 +59,11 @@ amount_fits_wide x amount e h = subst (FitsSigned w64) (sym (amount_wide x amoun
 
 pub amount_cast : (x amount : ℤ) → x ≡ amount → IsAmount amount → to_z w64 (of_z w64 (to_z w128 (of_z w128 x))) ≡ amount
 amount_cast x amount e h = ap (λ (z : ℤ). to_z w64 (of_z w64 z)) (amount_wide x amount e h) ∙ amount_passed amount h
+
+-- an area that was read and passed
+pub area_read : (x b area : ℤ) → x ≡ b → pos 0 ≤ℤ b → b ≤ℤ area → area ≤ℤ pos 1_099_511_627_776 → to_z w64 (of_z w64 x) ≡ b
+area_read x b area e least most limit = omega (arith, ints)
+
+-- the areas before an element, as they were read and passed
+pub before_read : (x b area : ℤ) → x ≡ b → pos 0 ≤ℤ b → b ≤ℤ area → area ≤ℤ pos 1_099_511_627_776 → (pos 0 ≤ℤ to_z w64 (of_z w64 x)) × (to_z w64 (of_z w64 x) ≤ℤ to_z w64 (of_z w64 area))
+before_read x b area e least most limit = (omega (arith, ints), omega (arith, ints))

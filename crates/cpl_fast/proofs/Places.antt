@@ -1,5 +1,5 @@
 -- Items of tables, and the areas of elements.
-use Rattle.std.proofs.Common.{◌≡◌, ◌∙◌, sym, ap, ℕ, ◌+◌, ◌*◌, ◌<◌, ◌≢◌, arith, add-one, List, length, map, inl, inr, get_or, get_or-set_same, get_or-set_other, slice_set}
+use Rattle.std.proofs.Common.{◌≡◌, ◌∙◌, sym, ap, subst, ℕ, ◌+◌, ◌*◌, ◌<◌, ◌≢◌, arith, add-one, List, length, map, inl, inr, get_or, get_or-set_same, get_or-set_other, slice_set}
 use Rattle.std.specs.Prelude.{ℤ, ◌+ℤ◌}
 use Rattle.std.specs.List.{range_with_len}
 use Rattle.std.proofs.lemmas.Int.{ints}
@@ -26,13 +26,11 @@ before_more tables row k = let e = total_more (area_in tables row) k in omega (a
 -- one place more of a row is written, and the places before the row stay
 pub row_more : {X : Type 0} (f : ℕ → X) (xs : List X) (first k : ℕ) (d v : X) → first + k < length xs → ((j : ℕ) → j < k → get_or xs (first + j) d ≡ f j) → v ≡ f k
     → (j : ℕ) → j < k + 1 → get_or (slice_set xs (first + k) v) (first + j) d ≡ f j
-row_more f xs first k d v within done is j below = elim (cases_eq j k) [
-  | inl e ↦
-      let same : first + j ≡ first + k = omega (arith, e) in
-      ap (λ n. get_or (slice_set xs (first + k) v) n d) same ∙ get_or-set_same xs (first + k) v d within ∙ is ∙ sym (ap f e)
+row_more f xs first k d v within done own j below = elim (cases_eq j k) [
+  | inl e ↦ ap (λ n. get_or (slice_set xs (first + k) v) (first + n) d) e ∙ get_or-set_same xs (first + k) v d within ∙ own ∙ sym (ap f e)
   | inr ne ↦
       let other : first + j ≢ first + k = omega (arith, ne) in
-      get_or-set_other xs (first + k) (first + j) v d other ∙ done j (omega arith)
+      get_or-set_other xs (first + k) (first + j) v d other ∙ done j (omega (arith, ne))
 ]
 
 pub others_stay : {X : Type 0} (xs ys : List X) (first k : ℕ) (d v : X) → ((n : ℕ) → n < first → get_or xs n d ≡ get_or ys n d)
@@ -49,14 +47,14 @@ place_within rows width row k r l = let e = mul-add-lt row width k rows r l in o
 pub place_before : (width row k next : ℕ) → row < next → k < width → row * width + k < next * width
 place_before width row k next r l = place_within next width row k r l
 
--- the places of one row more are done, and those before it stay
+-- the places of one row more are as they should be, and those before it stay
 pub rows_more : {X : Type 0} (f : ℕ → ℕ → X) (now next : List X) (width row : ℕ) (d : X)
     → ((r k : ℕ) → r < row → k < width → get_or now (r * width + k) d ≡ f r k)
     → ((k : ℕ) → k < width → get_or next (row * width + k) d ≡ f row k)
     → ((n : ℕ) → n < row * width → get_or next n d ≡ get_or now n d)
     → (r k : ℕ) → r < row + 1 → k < width → get_or next (r * width + k) d ≡ f r k
 rows_more f now next width row d done here stay r k below l = elim (cases_eq r row) [
-  | inl e ↦ (λ i. get_or next (e i * width + k) d) ∙ here k l ∙ (λ i. f (sym e i) k)
+  | inl e ↦ subst (λ n. get_or next (n * width + k) d ≡ f n k) (sym e) (here k l)
   | inr ne ↦
       let before : r < row = omega (arith, ne) in
       stay (r * width + k) (place_before width r k row before l) ∙ done r k before l

@@ -1,23 +1,19 @@
 -- The cells of the air by the tables are those of the definitions.
-use Rattle.std.proofs.Common.{◌≡◌, ◌∙◌, sym, ap, subst, ℕ, ◌<◌, ◌≤◌, arith, List, length, map}
+use Rattle.std.proofs.Common.{◌≡◌, ◌∙◌, sym, ap, subst, ℕ, ◌<◌, arith, List, length, map}
 use Rattle.std.specs.Prelude.{ℤ, pos, ◌+ℤ◌, ◌-ℤ◌, ◌*ℤ◌, All}
 use Rattle.std.specs.List.{range_with_len}
 use Rattle.std.proofs.lemmas.Int.{ints}
-use Rattle.std.proofs.lemmas.Nat.{mul-add-lt}
 use Rattle.std.proofs.lemmas.List.FromFn.{fill_by_all}
 use Rattle.cpl_fixed.specs.Amounts.{IsAmount, at}
 use Rattle.cpl_fixed.specs.Totals.{total_of}
-use Rattle.cpl_fixed.specs.declared.limits.TheConstants.{MOST_CELLS}
 use Rattle.cpl_flux.specs.declared.parts.AirSide.{AirSide}
 use Rattle.cpl_mosaic.specs.Cells.{cell_of}
-use Rattle.cpl_mosaic.specs.Contacts.{cells_of}
-use Rattle.cpl_xgrid.specs.Lists.{XGridLists}
 use Rattle.cpl_xgrid.specs.Rows.{rows_of}
 use Rattle.cpl_xgrid.specs.declared.parts.XRef.{XRef}
 use Rattle.cpl_xgrid.specs.declared.parts.Surface.{Surface}
 use Rattle.cpl_xgrid.specs.declared.parts.Surface.TheVariants.{Land, Ocean}
 use Rattle.cpl_xgrid.proofs.Sums.{air_refs_are}
-use Rattle.cpl_restart.specs.States.{air_cells, air_side, categories, part_count}
+use Rattle.cpl_restart.specs.States.{air_cells, air_side, part_count}
 use Rattle.cpl_restart.specs.Elements.{over_all, refs_of_air_cell}
 use Rattle.cpl_restart.specs.FastStep.{Before, heat_down, water_up, absorbed, to_space, heat_before_rain, vapour_before_rain, heat_after_rain, vapour_after_rain, rain, left, for_each}
 use Rattle.cpl_laws.proofs.Elements.{each_of_air}
@@ -82,12 +78,9 @@ module _ (s : Before) (lawful : IsLawful s) (wet : XRef → ℕ → ℤ) (land o
       λ i. record { heat = heat i -ℤ (pos 1_426 *ℤ wet i); vapour = vapour i -ℤ wet i; rain = wet i; space = to_space s n }
 
   -- it is in range
-  reach : (list : Surface) (m : ℕ) → m < length (rows_of s.grid.xgrid list) → within land ocean (part_count s.grid) (record { list = list; row = m })
+  reach : (list : Surface) (m : ℕ) → m < length (rows_of s.grid.xgrid list) → within land (length s.grid.xgrid.ocean_rows) (record { list = list; row = m })
   reach Land m l = let e = of_land.count in omega (arith, e)
-  reach Ocean m l =
-      let e = of_ocean.count in
-      let inside = mul-add-lt m (part_count s.grid) (categories s.grid) (length (rows_of s.grid.xgrid Ocean)) l (omega arith) in
-      omega (arith, e, inside)
+  reach Ocean m l = l
 
   pub can_rain : (n : ℕ) → n < air_cells s.grid → CanRain s.rates s.grid.xgrid (air_side s.grid s.mid.whole n) (part_count s.grid) land ocean n
   can_rain n l =
@@ -96,7 +89,7 @@ module _ (s : Before) (lawful : IsLawful s) (wet : XRef → ℕ → ℤ) (land o
       record {
         range = air_in_range s lawful.numbers lawful.can.air lawful.mates lawful.can n l;
         few = are.few;
-        rows = subst (All (within land ocean (part_count s.grid))) (sym refs) (each_of_air s.grid lawful.numbers (within land ocean (part_count s.grid)) n l (λ list m h e. reach list m h));
+        rows = subst (All (within land (length s.grid.xgrid.ocean_rows))) (sym refs) (each_of_air s.grid lawful.numbers (within land (length s.grid.xgrid.ocean_rows)) n l (λ list m h e. reach list m h));
         heat = subst IsAmount (sym (warm_is n l)) (lawful.keeps.heat_before_rain n l);
         vapour = subst IsAmount (sym (moist_is n l)) (lawful.keeps.vapour_before_rain n l);
       }

@@ -1,10 +1,8 @@
 -- What flows through the elements and rains on them by the tables is that of the definitions.
-use Rattle.std.proofs.Common.{◌≡◌, ◌∙◌, sym, ap, subst, Bool, true, false, ℕ, ◌+◌, ◌*◌, ◌<◌, ◌≤◌, arith, List, length, cond, min}
+use Rattle.std.proofs.Common.{◌≡◌, ◌≢◌, ◌∙◌, sym, ap, subst, Bool, true, false, ℕ, ◌*◌, ◌<◌, ◌≤◌, arith, List, length, cond, min}
 use Rattle.std.specs.Prelude.{ℤ, pos, ◌+ℤ◌, ◌-ℤ◌, ◌*ℤ◌, ◌≤ℤ◌}
 use Rattle.std.specs.List.{range_with_len}
 use Rattle.std.proofs.lemmas.Int.{ints}
-use Rattle.std.proofs.lemmas.Nat.{mul-add-lt}
-use Rattle.std.proofs.lemmas.List.FromFn.{length-map-range_with_len}
 use Rattle.cpl_fixed.specs.Amounts.{IsAmount, at}
 use Rattle.cpl_fixed.specs.declared.limits.TheConstants.{VAPOUR_HEAT, WATER_HEAT}
 use Rattle.cpl_fixed.specs.declared.rates.Rates.{Rates}
@@ -15,13 +13,13 @@ use Rattle.cpl_flux.specs.declared.parts.Kind.TheVariants as kind
 use Rattle.cpl_flux.specs.declared.temperatures.TheConstants.{FREEZING, HOTTEST}
 use Rattle.cpl_flux.specs.Elements.{IsElement, IsPart}
 use Rattle.cpl_flux.specs.Temperatures.{temperature, temperature_by, weather}
+use Rattle.cpl_mosaic.specs.Contacts.{cells_of}
 use Rattle.cpl_xgrid.specs.Rows.{refs_to, rows_of}
-use Rattle.cpl_xgrid.specs.declared.grid.Grid.{Grid}
 use Rattle.cpl_xgrid.specs.declared.parts.XRef.{XRef}
 use Rattle.cpl_xgrid.specs.declared.parts.Surface.{Surface}
 use Rattle.cpl_xgrid.specs.declared.parts.Surface.TheVariants.{Land, Ocean}
 use Rattle.cpl_restart.specs.States.{air_cells, air_side}
-use Rattle.cpl_restart.specs.Elements.{air_number, area_before, element_area, element_count, over_all, over_elements, surface_number, share_at}
+use Rattle.cpl_restart.specs.Elements.{air_number, area_before, element_area, element_count, over_all, over_elements, surface_number, share_at, tiles_of}
 use Rattle.cpl_restart.specs.FastStep.{Before, absorbed, entered, heat_down, heat_given, rain, rain_on, sun_on, surface_part, water_given, water_up, for_each}
 use Rattle.cpl_restart.specs.FastLaws.{IsPlaced}
 use Rattle.cpl_laws.proofs.Elements.{air_below, surface_below}
@@ -36,12 +34,14 @@ use Rattle.cpl_fast.specs.declared.flows.WarmPart.{WarmPart}
 use Rattle.cpl_fast.specs.declared.sums.Sums.{Sums}
 use Rattle.cpl_fast.specs.Filled.{AreSkies, AreTables}
 use Rattle.cpl_fast.specs.Flows.{CanFlow, IsSky, area_in, before_in, flow_at, flow_in, link_at, part_in, sky_at, sky_of}
+use Rattle.cpl_fast.specs.Places.{place_in}
 use Rattle.cpl_fast.specs.Rain.{CanRainOn, in_list, rained_on, with_share}
 use Rattle.cpl_fast.specs.Stages.{AreFlows, IsLawful, dry, flow_of, given}
 use Rattle.cpl_fast.specs.Sums.{SumsAre, net_heat, taken}
 use Rattle.cpl_fast.specs.Tables.{warm_part}
 use Rattle.cpl_fast.proofs.Elementwise.{list_is}
-use Rattle.cpl_fast.proofs.Found.{area_found, before_found, flow_found, part_found, sky_found}
+use Rattle.cpl_fast.proofs.Found.{area_found, before_found, flow_found, part_found, sky_found, some_part}
+use Rattle.cpl_fast.proofs.Placed.{entry_within}
 use Rattle.cpl_fast.proofs.InRange.{air_in_range, part_in_range}
 
 -- TEMPERATURES
@@ -106,9 +106,6 @@ module _ (s : Before) (lawful : IsLawful s) (list : Surface) (tables : Tables) (
     sky_is : sky_of skies tables m ≡ record { air = air_of; weather = weather s.rates air_of; sun = sun_on s (air_number s.grid (ref m)) }
     sky_is = sky_found s list tables skies are seen lawful.numbers lawful.can m k l h
 
-    part_is : part_in tables m k ≡ warm_part s.rates (surface_part s.grid s.mid list (surface_number s.grid (ref m)) k)
-    part_is = part_found s list tables skies are seen lawful.numbers lawful.can m k l h
-
     area_is : area_in tables m k ≡ element_area s.grid s.mid.whole (ref m) k
     area_is = area_found s list tables skies are seen lawful.numbers lawful.can m k l h
 
@@ -117,6 +114,9 @@ module _ (s : Before) (lawful : IsLawful s) (list : Surface) (tables : Tables) (
 
     placed : IsPlaced s (ref m) k
     placed = lawful.keeps.placed (ref m) k (record { row = l; part = h })
+
+    part_is : area_in tables m k ≢ pos 0 → part_in tables m k ≡ warm_part s.rates (surface_part s.grid s.mid list (surface_number s.grid (ref m)) k)
+    part_is some = part_found s list tables skies are seen lawful.numbers lawful.can m k l h (some_part s list tables skies are seen lawful.numbers lawful.can m k l h placed some)
 
     below : air_number s.grid (ref m) < air_cells s.grid
     below = air_below s.grid lawful.numbers list m l
@@ -129,13 +129,13 @@ module _ (s : Before) (lawful : IsLawful s) (list : Surface) (tables : Tables) (
           sun = lawful.keeps.sun (air_number s.grid (ref m)) below;
         })
 
-    place_is : (link_at tables.links.items m).surface * tables.width + k < length tables.parts.items
+    place_is : place_in tables.cells (link_at tables.links.items m).surface k < length tables.parts.items
     place_is =
         let e = (are.links.each m l).surface in
-        let w = are.width in
+        let cells = are.cells in
         let here = surface_below s.grid lawful.numbers list m l in
-        let inside = mul-add-lt (surface_number s.grid (ref m)) width k _ here h in
-        let same : (link_at tables.links.items m).surface * tables.width + k ≡ surface_number s.grid (ref m) * width + k = (λ i. e i * w i + k) in
+        let inside = entry_within _ width (surface_number s.grid (ref m)) k here h in
+        let same : place_in tables.cells (link_at tables.links.items m).surface k ≡ place_in (cells_of (tiles_of s.grid list)) (surface_number s.grid (ref m)) k = (λ i. place_in (cells i) (e i) k) in
         let count = are.count in
         omega (arith, same, inside, count)
 
@@ -159,14 +159,17 @@ module _ (s : Before) (lawful : IsLawful s) (list : Surface) (tables : Tables) (
         record {
           seen = sky_in_range;
           place = place_is;
-          part = subst (λ (w : WarmPart). IsPart w.part) (sym part_is) (part_in_range s lawful.numbers lawful.can.air lawful.mates lawful.can list n k (surface_below s.grid lawful.numbers list m l) h);
-          temperature = subst (λ (w : WarmPart). w.temperature ≤ HOTTEST) (sym part_is) (by_kind s.rates (surface_part s.grid s.mid list n k) (surface_part s.grid s.mid list n k).kind);
-          element =
-              subst (λ (sky : Sky). IsElement sky.air (part_in tables m k).part (area_in tables m k)) (sym sky_is)
-              (subst (λ (w : WarmPart). IsElement air_of w.part (area_in tables m k)) (sym part_is)
-              (subst (λ (b : ℤ). IsElement air_of (surface_part s.grid s.mid list n k) b) (sym area_is) placed.element));
+          least = least;
           before = natural;
           within = inside;
+          part = λ some. record {
+            range = subst (λ (w : WarmPart). IsPart w.part) (sym (part_is some)) (part_in_range s lawful.numbers lawful.can.air lawful.mates lawful.can list n k (surface_below s.grid lawful.numbers list m l) h);
+            temperature = subst (λ (w : WarmPart). w.temperature ≤ HOTTEST) (sym (part_is some)) (by_kind s.rates (surface_part s.grid s.mid list n k) (surface_part s.grid s.mid list n k).kind);
+            element =
+                subst (λ (sky : Sky). IsElement sky.air (part_in tables m k).part (area_in tables m k)) (sym sky_is)
+                (subst (λ (w : WarmPart). IsElement air_of w.part (area_in tables m k)) (sym (part_is some))
+                (subst (λ (b : ℤ). IsElement air_of (surface_part s.grid s.mid list n k) b) (sym area_is) placed.element));
+          };
         }
 
     can_rain_here : CanRainOn (sky_of skies tables m).air.area tables m k
@@ -207,13 +210,13 @@ module _ (s : Before) (lawful : IsLawful s) (list : Surface) (tables : Tables) (
   few = let e = are.links.count in let most = rows_most list in omega (arith, e, most)
 
   pub flows_are : (flows : List Flow) → length flows ≡ rows * width
-      → ((m k : ℕ) → m < length tables.links.items → k < tables.width → flow_at flows (m * tables.width + k) ≡ flow_in s.rates list (sky_of skies tables m) tables m k)
+      → ((m k : ℕ) → m < length tables.links.items → k < tables.width → flow_at flows (place_in (length tables.links.items) m k) ≡ flow_in s.rates list (sky_of skies tables m) tables m k)
       → AreFlows s dry list flows
   flows_are flows count value = record {
     count = count;
     each = λ m k l h.
-        ap (λ (w : ℕ). flow_at flows (m * w + k)) (sym are.width) ∙ value m k (row_above m l) (part_above k h)
-        ∙ flow_found s list tables skies are seen lawful.numbers lawful.can m k l h;
+        ap (λ (r : ℕ). flow_at flows (place_in r m k)) (sym are.links.count) ∙ value m k (row_above m l) (part_above k h)
+        ∙ flow_found s list tables skies are seen lawful.numbers lawful.can m k l h (placed m k l h);
   }
 
   -- RAIN
@@ -240,7 +243,7 @@ module _ (s : Before) (lawful : IsLawful s) (list : Surface) (tables : Tables) (
     wet_is flows have m k l h =
         let n = air_number s.grid (ref m) in
         let link = (are.links.each m l).air in
-        let flow = ap (λ (w : ℕ). flow_at flows (m * w + k)) are.width ∙ have.each m k l h in
+        let flow = ap (λ (r : ℕ). flow_at flows (place_in r m k)) are.links.count ∙ have.each m k l h in
         let water = ap (at rains) link ∙ rain_at n (below m k l h) in
         let before = before_is m k l h in
         let area = area_is m k l h in
@@ -249,23 +252,23 @@ module _ (s : Before) (lawful : IsLawful s) (list : Surface) (tables : Tables) (
 
     pub wet_are : (flows new : List Flow) → AreFlows s dry list flows → length new ≡ length flows
         → ((m k : ℕ) → m < length tables.links.items → k < tables.width
-        → flow_at new (m * tables.width + k) ≡ rained_on (at rains (link_at tables.links.items m).air) (sky_at skies (link_at tables.links.items m).air).air.area tables flows m k)
+        → flow_at new (place_in (length tables.links.items) m k) ≡ rained_on (at rains (link_at tables.links.items m).air) (sky_at skies (link_at tables.links.items m).air).air.area tables flows m k)
         → AreFlows s (rain_on s) list new
     wet_are flows new have count value = record {
       count = count ∙ have.count;
-      each = λ m k l h. ap (λ (w : ℕ). flow_at new (m * w + k)) (sym are.width) ∙ value m k (row_above m l) (part_above k h) ∙ wet_is flows have m k l h;
+      each = λ m k l h. ap (λ (r : ℕ). flow_at new (place_in r m k)) (sym are.links.count) ∙ value m k (row_above m l) (part_above k h) ∙ wet_is flows have m k l h;
     }
 
   -- WHAT ALL ELEMENTS OF THE LIST HAVE
 
-  over_is : (flows : List Flow) (number : Flow → ℤ) → AreFlows s (rain_on s) list flows → in_list flows tables.width (length tables.links.items) number ≡ over_rows s.grid list (λ ref k. number (flow_of s (rain_on s) ref k))
+  over_is : (flows : List Flow) (number : Flow → ℤ) → AreFlows s (rain_on s) list flows → in_list flows (length tables.links.items) tables.width number ≡ over_rows s.grid list (λ ref k. number (flow_of s (rain_on s) ref k))
   over_is flows number have =
-      (λ i. in_list flows (are.width i) (are.links.count i) number) ∙ list_is s (rain_on s) number list flows have
+      (λ i. in_list flows (are.links.count i) (are.width i) number) ∙ list_is s (rain_on s) number list flows have
 
-  pub sun_is : (flows : List Flow) (sums : Sums) → AreFlows s (rain_on s) list flows → SumsAre sums (in_list flows tables.width (length tables.links.items)) → sums.sun ≡ over_rows s.grid list (absorbed s)
+  pub sun_is : (flows : List Flow) (sums : Sums) → AreFlows s (rain_on s) list flows → SumsAre sums (in_list flows (length tables.links.items) tables.width) → sums.sun ≡ over_rows s.grid list (absorbed s)
   sun_is flows sums have of = of.sun ∙ over_is flows (λ (flow : Flow). flow.sun) have
 
-  pub given_is : (flows : List Flow) (sums : Sums) → AreFlows s (rain_on s) list flows → SumsAre sums (in_list flows tables.width (length tables.links.items)) → taken sums ≡ given s list
+  pub given_is : (flows : List Flow) (sums : Sums) → AreFlows s (rain_on s) list flows → SumsAre sums (in_list flows (length tables.links.items) tables.width) → taken sums ≡ given s list
   given_is flows sums have of =
       let heat = of.heat ∙ over_is flows (λ (flow : Flow). flow.heat) have in
       let water = of.water ∙ over_is flows (λ (flow : Flow). flow.water) have in

@@ -32,12 +32,11 @@ use Rattle.cpl_fast.specs.Stages.{AreFlows, IsLawful, to_ice, to_land}
 use Rattle.cpl_fast.specs.Sums.{reaches, sums_in, taken}
 use Rattle.cpl_fast.specs.Surfaces.{AreRowsOf, CanGainIce, CanGainLand, CanGainSkin, category_gain, ice_of, land_at, land_sums, ocean_at, ocean_sums, refs_on, skin_at, skin_of, taken_to}
 use Rattle.cpl_fast.proofs.Elementwise.{part_is, surface_refs}
-use Rattle.cpl_fast.proofs.Making.{all_below}
 
 -- SUMS OVER A PART
 
 module _ (s : Before) (is : IsNumbered s.grid) (list : Surface) (flows : List Flow) (are : AreFlows s (rain_on s) list flows) (n k : ℕ) (below : n < cells_of (tiles_of s.grid list)) (part : k < element_count s.grid list) where
-  pub sums_are : sums_in flows (element_count s.grid list) k (refs_on s.grid.xgrid list n)
+  pub sums_are : sums_in flows (length (rows_of s.grid.xgrid list)) k (refs_on s.grid.xgrid list n)
       ≡ record { heat = over_part (heat_down s) k (refs_of_surface_cell s.grid list n); water = over_part (water_up s) k (refs_of_surface_cell s.grid list n); sun = over_part (absorbed s) k (refs_of_surface_cell s.grid list n); rain = over_part (rain_on s) k (refs_of_surface_cell s.grid list n) }
   unfolding sums_in
   sums_are =
@@ -48,19 +47,19 @@ module _ (s : Before) (is : IsNumbered s.grid) (list : Surface) (flows : List Fl
       λ i. record { heat = heat i; water = water i; sun = sun i; rain = rain i }
 
   -- what the elements take
-  pub taken_is : taken (sums_in flows (element_count s.grid list) k (refs_on s.grid.xgrid list n)) ≡ record { heat = (part_taken s list n k).heat; water = (part_taken s list n k).water }
+  pub taken_is : taken (sums_in flows (length (rows_of s.grid.xgrid list)) k (refs_on s.grid.xgrid list n)) ≡ record { heat = (part_taken s list n k).heat; water = (part_taken s list n k).water }
   taken_is =
       let heat = total_with (λ (ref : XRef). heat_down s ref k) (λ (ref : XRef). water_up s ref k) (λ (ref : XRef). rain_on s ref k) (refs_of_surface_cell s.grid list n) in
       let water = total_less (λ (ref : XRef). rain_on s ref k) (λ (ref : XRef). water_up s ref k) (refs_of_surface_cell s.grid list n) in
       ap taken sums_are ∙ (λ i. record { heat = sym heat i; water = sym water i })
 
-  pub sun_is : (sums_in flows (element_count s.grid list) k (refs_on s.grid.xgrid list n)).sun ≡ part_absorbed s list n k
+  pub sun_is : (sums_in flows (length (rows_of s.grid.xgrid list)) k (refs_on s.grid.xgrid list n)).sun ≡ part_absorbed s list n k
   sun_is = ap (λ (sums : Sums). sums.sun) sums_are
 
-  pub heat_is : (sums_in flows (element_count s.grid list) k (refs_on s.grid.xgrid list n)).heat ≡ over_part (heat_down s) k (refs_of_surface_cell s.grid list n)
+  pub heat_is : (sums_in flows (length (rows_of s.grid.xgrid list)) k (refs_on s.grid.xgrid list n)).heat ≡ over_part (heat_down s) k (refs_of_surface_cell s.grid list n)
   heat_is = ap (λ (sums : Sums). sums.heat) sums_are
 
-  pub rain_is : (sums_in flows (element_count s.grid list) k (refs_on s.grid.xgrid list n)).rain ≡ over_part (rain_on s) k (refs_of_surface_cell s.grid list n)
+  pub rain_is : (sums_in flows (length (rows_of s.grid.xgrid list)) k (refs_on s.grid.xgrid list n)).rain ≡ over_part (rain_on s) k (refs_of_surface_cell s.grid list n)
   rain_is = ap (λ (sums : Sums). sums.rain) sums_are
 
 -- THE ELEMENTS OF A CELL
@@ -73,14 +72,13 @@ module _ (s : Before) (is : IsNumbered s.grid) where
 
   pub rows_are : (list : Surface) (flows : List Flow) → length flows ≡ length (rows_of s.grid.xgrid list) * element_count s.grid list → (n : ℕ) → n < cells_of (tiles_of s.grid list) → AreRowsOf list s.grid.xgrid flows (element_count s.grid list) n
   rows_are list flows count n below =
-      let width = element_count s.grid list in
       let own = surface_refs s is list n in
       let few = few_refs list n in
       let long = ap length own in
       record {
         few = omega (arith, few, long);
-        rows = subst (λ (refs : List XRef). All (reaches flows width) refs) (sym own)
-            (each_of_surface s.grid is (reaches flows width) list n below (λ m l e. (let most = all_below m (length (rows_of s.grid.xgrid list)) width l in omega (arith, most, count))));
+        rows = subst (All (reaches (length (rows_of s.grid.xgrid list)))) (sym own) (each_of_surface s.grid is (reaches (length (rows_of s.grid.xgrid list))) list n below (λ m l e. l));
+        long = count;
       }
 
 -- what the categories take, cell by cell
@@ -146,7 +144,7 @@ module _ (s : Before) (lawful : IsLawful s) where
   -- THE ICE
 
   module _ (flows : List Flow) (are : AreFlows s (rain_on s) Ocean flows) where
-    pub gain_is : (n k : ℕ) → n < ocean_cells s.grid → k < categories s.grid → category_gain s.grid.xgrid flows (categories s.grid) n k ≡ category_taken s n k +ℤ part_absorbed s Ocean n (k + 1)
+    pub gain_is : (n k : ℕ) → n < ocean_cells s.grid → k < categories s.grid → category_gain s.grid.xgrid flows n k ≡ category_taken s n k +ℤ part_absorbed s Ocean n (k + 1)
     unfolding ocean_sums category_taken
     gain_is n k l h =
         let heat = heat_is s lawful.numbers Ocean flows are n (k + 1) l (omega arith) in
@@ -157,9 +155,9 @@ module _ (s : Before) (lawful : IsLawful s) where
     unfolding ice_of ocean_sums category_taken rain_on_ice
     ice_is n l =
         let refs = refs_of_surface_cell s.grid Ocean n in
-        let rain = cells_same (λ k. (ocean_sums s.grid.xgrid flows (categories s.grid + 1) n (k + 1)).rain) (λ k. over_part (rain_on s) (k + 1) refs) (categories s.grid)
+        let rain = cells_same (λ k. (ocean_sums s.grid.xgrid flows n (k + 1)).rain) (λ k. over_part (rain_on s) (k + 1) refs) (categories s.grid)
         (λ k h. rain_is s lawful.numbers Ocean flows are n (k + 1) l (omega arith)) in
-        let heat = cells_same (λ k. (ocean_sums s.grid.xgrid flows (categories s.grid + 1) n (k + 1)).heat) (λ k. over_part (heat_down s) (k + 1) refs) (categories s.grid)
+        let heat = cells_same (λ k. (ocean_sums s.grid.xgrid flows n (k + 1)).heat) (λ k. over_part (heat_down s) (k + 1) refs) (categories s.grid)
         (λ k h. heat_is s lawful.numbers Ocean flows are n (k + 1) l (omega arith)) in
         λ i. record { rain = rain i; heat = heat i }
 
@@ -180,7 +178,7 @@ module _ (s : Before) (lawful : IsLawful s) where
         λ i. record { heat = heat +ℤ ((took i).heat +ℤ sun i); water = water +ℤ (took i).water; taken = took i }
 
     module _ (ice heat water : List ℤ) (ice_same : ice ≡ s.mid.whole.ice_heat) (heat_same : heat ≡ s.mid.skin_heat) (water_same : water ≡ s.mid.skin_water) where
-      category_is : (n k : ℕ) → n < ocean_cells s.grid → k < categories s.grid → at ice (n * categories s.grid + k) +ℤ category_gain s.grid.xgrid flows (categories s.grid) n k ≡ category_heat_after s n k
+      category_is : (n k : ℕ) → n < ocean_cells s.grid → k < categories s.grid → at ice (n * categories s.grid + k) +ℤ category_gain s.grid.xgrid flows n k ≡ category_heat_after s n k
       category_is n k l h =
           let gain = gain_is n k l h in
           let own = ap (λ (xs : List ℤ). at xs (n * categories s.grid + k)) ice_same in
@@ -211,7 +209,7 @@ module _ (s : Before) (lawful : IsLawful s) where
       skin_waters new count value = fill_by_all (λ n. (skin_after s n).water) new (ocean_cells s.grid) (pos 0) count (λ n l. value n l ∙ skin_water_is n l)
 
       pub ice_heats : (new : List ℤ) → length new ≡ categories s.grid * ocean_cells s.grid
-          → ((n k : ℕ) → n < ocean_cells s.grid → k < categories s.grid → at new (n * categories s.grid + k) ≡ at ice (n * categories s.grid + k) +ℤ category_gain s.grid.xgrid flows (categories s.grid) n k)
+          → ((n k : ℕ) → n < ocean_cells s.grid → k < categories s.grid → at new (n * categories s.grid + k) ≡ at ice (n * categories s.grid + k) +ℤ category_gain s.grid.xgrid flows n k)
           → new ≡ for_each_category s.grid (category_heat_after s)
       ice_heats new count value =
           fill_by_all (λ i. category_heat_after s (i / categories s.grid) (i % categories s.grid)) new (categories s.grid * ocean_cells s.grid) (pos 0) count

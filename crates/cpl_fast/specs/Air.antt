@@ -48,10 +48,10 @@ refs_at xgrid n = refs_of_air xgrid.land_rows xgrid.ocean_rows (cell_of xgrid.ai
 -- the sums of its flows
 unfoldable pub sums_at : XGridLists → ℕ → (land ocean : List Flow) → ℕ → Sums
 sums_at xgrid width land ocean n = record {
-  heat = in_rows land ocean width (refs_at xgrid n) (λ (flow : Flow). flow.heat);
-  water = in_rows land ocean width (refs_at xgrid n) (λ (flow : Flow). flow.water);
-  sun = in_rows land ocean width (refs_at xgrid n) (λ (flow : Flow). flow.sun);
-  rain = in_rows land ocean width (refs_at xgrid n) (λ (flow : Flow). flow.rain);
+  heat = in_rows land ocean (length xgrid.ocean_rows) width (refs_at xgrid n) (λ (flow : Flow). flow.heat);
+  water = in_rows land ocean (length xgrid.ocean_rows) width (refs_at xgrid n) (λ (flow : Flow). flow.water);
+  sun = in_rows land ocean (length xgrid.ocean_rows) width (refs_at xgrid n) (λ (flow : Flow). flow.sun);
+  rain = in_rows land ocean (length xgrid.ocean_rows) width (refs_at xgrid n) (λ (flow : Flow). flow.rain);
 }
 
 unfoldable pub rained_at : Rates → XGridLists → AirSide → ℕ → (land ocean : List Flow) → ℕ → Rained
@@ -61,6 +61,6 @@ rained_at rates xgrid air width land ocean n = rained rates air (sums_at xgrid w
 pub record CanRain (rates : Rates) (xgrid : XGridLists) (air : AirSide) (width : ℕ) (land ocean : List Flow) (n : ℕ) : Type 0 where
   pub range : IsAirSide air
   pub few : length (refs_at xgrid n) ≤ MOST_EXCHANGE_CELLS
-  pub rows : All (within land ocean width) (refs_at xgrid n)
+  pub rows : All (within land (length xgrid.ocean_rows)) (refs_at xgrid n)
   pub heat : IsAmount (warm rates air (sums_at xgrid width land ocean n))
   pub vapour : IsAmount (moist air (sums_at xgrid width land ocean n))

@@ -13,7 +13,8 @@ use Rattle.cpl_flux.specs.Temperatures.{weather}
 use Rattle.cpl_fast.specs.declared.flows.Sky.{Sky}
 use Rattle.cpl_fast.specs.declared.flows.Tables.{Tables}
 use Rattle.cpl_fast.specs.Flows.{sky_at, warm_at}
-use Rattle.cpl_fast.specs.Tables.{AreLinks, warm_part}
+use Rattle.cpl_fast.specs.Places.{place_in}
+use Rattle.cpl_fast.specs.Tables.{AreLinks, StandsFor}
 
 -- the areas of the elements of a list's rows, row by row
 pub record AreElementAreas (grid : Grid) (whole : Whole) (list : Surface) (areas : List ℤ) : Type 0 where
@@ -21,14 +22,15 @@ pub record AreElementAreas (grid : Grid) (whole : Whole) (list : Surface) (areas
   pub each : (m k : ℕ) → m < length (rows_of grid.xgrid list) → k < element_count grid list
       → at areas (m * element_count grid list + k) ≡ element_area grid whole (record { list = list; row = m }) k
 
--- the tables of a list: its links, the areas of its elements, and the parts of its surface before a step
+-- the tables of a list: its links, the areas of its elements, and the parts of its surface that have an area, before a step
 pub record AreTables (s : Before) (list : Surface) (tables : Tables) : Type 0 where
   pub width : tables.width ≡ element_count s.grid list
+  pub cells : tables.cells ≡ cells_of (tiles_of s.grid list)
   pub links : AreLinks s.grid list tables.links.items
   pub areas : AreElementAreas s.grid s.mid.whole list tables.areas.items
   pub count : length tables.parts.items ≡ cells_of (tiles_of s.grid list) * element_count s.grid list
   pub parts : (n k : ℕ) → n < cells_of (tiles_of s.grid list) → k < element_count s.grid list
-      → warm_at tables.parts.items (n * element_count s.grid list + k) ≡ warm_part s.rates (surface_part s.grid s.mid list n k)
+      → StandsFor s.rates (surface_part s.grid s.mid list n k) (warm_at tables.parts.items (place_in (cells_of (tiles_of s.grid list)) n k))
 
 -- the skies of all cells of the air before a step
 pub record AreSkies (s : Before) (skies : List Sky) : Type 0 where

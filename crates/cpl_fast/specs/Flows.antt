@@ -1,6 +1,6 @@
 -- What flows through the elements of a list, by tables: the links of the rows, the areas of the elements, row by row, and the parts
--- of the surface, cell by cell.
-use Rattle.std.specs.Prelude.{◌≡◌, ℕ, ◌+◌, ◌*◌, ◌<◌, ◌≤◌, List, map, length, ℤ, pos, ◌+ℤ◌, ◌-ℤ◌, ◌≤ℤ◌, ◌<ℤ◌, slice_index_or}
+-- of the surface, those of all cells part by part.
+use Rattle.std.specs.Prelude.{◌≡◌, ◌≢◌, ℕ, ◌+◌, ◌*◌, ◌<◌, ◌≤◌, List, map, length, ℤ, pos, ◌+ℤ◌, ◌-ℤ◌, ◌≤ℤ◌, ◌<ℤ◌, slice_index_or}
 use Rattle.std.specs.List.{range_with_len}
 use Rattle.cpl_fixed.specs.Amounts.{IsAmount, at}
 use Rattle.cpl_fixed.specs.Shares.{part_of, share}
@@ -17,6 +17,7 @@ use Rattle.cpl_fast.specs.declared.flows.Link.{Link}
 use Rattle.cpl_fast.specs.declared.flows.Sky.{Sky}
 use Rattle.cpl_fast.specs.declared.flows.Tables.{Tables}
 use Rattle.cpl_fast.specs.declared.flows.WarmPart.{WarmPart}
+use Rattle.cpl_fast.specs.Places.{place_in}
 
 -- shares part way: what was given is the part of the weights before
 pub record ArePortions (portions : Portions) : Type 0 where
@@ -70,7 +71,7 @@ before_in tables row k = (link_at tables.links.items row).before +ℤ total_of (
 
 -- its part of the surface
 abbrev pub part_in : Tables → (row k : ℕ) → WarmPart
-part_in tables row k = warm_at tables.parts.items ((link_at tables.links.items row).surface * tables.width + k)
+part_in tables row k = warm_at tables.parts.items (place_in tables.cells (link_at tables.links.items row).surface k)
 
 -- its cell of the air
 abbrev pub sky_of : List Sky → Tables → (row : ℕ) → Sky
@@ -89,12 +90,17 @@ flow_through rates sky warm albedo b from = record {
 unfoldable pub flow_in : Rates → Surface → Sky → Tables → (row k : ℕ) → Flow
 flow_in rates list sky tables row k = flow_through rates sky (part_in tables row k) (albedo rates list k) (area_in tables row k) (before_in tables row k)
 
--- all numbers of an element are in range
-pub record CanFlow (sky : Sky) (tables : Tables) (row k : ℕ) : Type 0 where
-  pub seen : IsSky sky
-  pub place : (link_at tables.links.items row).surface * tables.width + k < length tables.parts.items
-  pub part : IsPart (part_in tables row k).part
+-- the part of an element is in range, and the element lies in it
+pub record IsOnPart (sky : Sky) (tables : Tables) (row k : ℕ) : Type 0 where
+  pub range : IsPart (part_in tables row k).part
   pub temperature : (part_in tables row k).temperature ≤ HOTTEST
   pub element : IsElement sky.air (part_in tables row k).part (area_in tables row k)
+
+-- all numbers of an element are in range, those of its part where it has an area
+pub record CanFlow (sky : Sky) (tables : Tables) (row k : ℕ) : Type 0 where
+  pub seen : IsSky sky
+  pub place : place_in tables.cells (link_at tables.links.items row).surface k < length tables.parts.items
+  pub least : pos 0 ≤ℤ area_in tables row k
   pub before : pos 0 ≤ℤ before_in tables row k
   pub within : (before_in tables row k +ℤ area_in tables row k) ≤ℤ sky.air.area
+  pub part : area_in tables row k ≢ pos 0 → IsOnPart sky tables row k

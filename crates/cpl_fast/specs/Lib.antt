@@ -1,3 +1,4 @@
+pub mod Places
 pub mod Flows
 pub mod Sums
 pub mod Air

@@ -16,6 +16,7 @@ use Rattle.cpl_restart.specs.FastStep.{Before}
 use Rattle.cpl_fast.specs.declared.flows.Tables.{Tables}
 use Rattle.cpl_fast.specs.declared.room.FastRoom.{FastRoom}
 use Rattle.cpl_fast.specs.Filled.{AreElementAreas}
+use Rattle.cpl_fast.specs.Sums.{AreClear}
 use Rattle.cpl_fast.specs.Tables.{AreLinks}
 
 -- what a fast step goes by, from its parts
@@ -25,6 +26,7 @@ before_step grid rates month mid = record { grid = grid; rates = rates; month = 
 -- the tables of a list: its links, and room for the areas of its elements and for the parts of its surface
 pub record HasTables (grid : Grid) (list : Surface) (tables : Tables) : Type 0 where
   pub width : tables.width ≡ element_count grid list
+  pub cells : tables.cells ≡ cells_of (tiles_of grid list)
   pub links : AreLinks grid list tables.links.items
   pub areas : length tables.areas.items ≡ length (rows_of grid.xgrid list) * element_count grid list
   pub parts : length tables.parts.items ≡ cells_of (tiles_of grid list) * element_count grid list
@@ -55,10 +57,13 @@ pub record ArePartAreas (grid : Grid) (whole : Whole) (list : Surface) (areas : 
   pub each : (n k : ℕ) → n < cells_of (tiles_of grid list) → k < element_count grid list
       → at areas (n * element_count grid list + k) ≡ part_area grid whole list n k
 
--- room in which the areas of a state's elements and parts stand; they depend on the state's parts alone
+-- room in which the areas of a state's elements and parts stand, and in which nothing flows through elements of the area 0; they
+-- depend on the state's parts alone
 pub record IsDivided (grid : Grid) (whole : Whole) (fast : FastRoom) : Type 0 where
   pub room : IsFastRoom grid fast
   pub land : AreElementAreas grid whole Land fast.land.areas.items
   pub ocean : AreElementAreas grid whole Ocean fast.ocean.areas.items
   pub land_area : ArePartAreas grid whole Land fast.land_area.items
   pub ocean_area : ArePartAreas grid whole Ocean fast.ocean_area.items
+  pub land_clear : AreClear fast.land fast.land_flows.items
+  pub ocean_clear : AreClear fast.ocean fast.ocean_flows.items

@@ -1,5 +1,5 @@
 -- How far a fast step has come: what stands in its room.
-use Rattle.std.specs.Prelude.{◌≡◌, ℕ, ◌+◌, ◌*◌, ◌<◌, ◌≤◌, List, length, ℤ, pos}
+use Rattle.std.specs.Prelude.{◌≡◌, ℕ, ◌*◌, ◌<◌, ◌≤◌, List, length, ℤ, pos}
 use Rattle.cpl_fixed.specs.declared.limits.TheConstants.{MOST_CELLS}
 use Rattle.cpl_mosaic.specs.Mates.{MatesAgree}
 use Rattle.cpl_xgrid.specs.declared.parts.XRef.{XRef}
@@ -18,6 +18,7 @@ use Rattle.cpl_fast.specs.declared.stages.View.{View}
 use Rattle.cpl_fast.specs.declared.sums.Taken.{Taken}
 use Rattle.cpl_fast.specs.Filled.{AreTables, AreSkies}
 use Rattle.cpl_fast.specs.Flows.{flow_at}
+use Rattle.cpl_fast.specs.Places.{place_in}
 use Rattle.cpl_fast.specs.Rooms.{IsDivided}
 
 -- the step that a view is of
@@ -50,11 +51,11 @@ flow_of s wet ref k = record { heat = heat_down s ref k; water = water_up s ref 
 abbrev pub dry : XRef → ℕ → ℤ
 dry ref k = pos 0
 
--- the flows of all elements of a list, row by row
+-- the flows of all elements of a list, part by part
 pub record AreFlows (s : Before) (wet : XRef → ℕ → ℤ) (list : Surface) (flows : List Flow) : Type 0 where
   pub count : length flows ≡ length (rows_of s.grid.xgrid list) * element_count s.grid list
   pub each : (m k : ℕ) → m < length (rows_of s.grid.xgrid list) → k < element_count s.grid list
-      → flow_at flows (m * element_count s.grid list + k) ≡ flow_of s wet (record { list = list; row = m }) k
+      → flow_at flows (place_in (length (rows_of s.grid.xgrid list)) m k) ≡ flow_of s wet (record { list = list; row = m }) k
 
 -- room in which the flows of all elements stand
 pub record HasFlows (s : Before) (wet : XRef → ℕ → ℤ) (room : FastRoom) : Type 0 where

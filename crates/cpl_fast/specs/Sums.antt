@@ -1,5 +1,5 @@
 -- Sums of flows over elements.
-use Rattle.std.specs.Prelude.{◌≡◌, ℕ, ◌+◌, ◌*◌, ◌≤◌, ◌^◌, List, map, length, ℤ, pos, neg_ℤ, ◌+ℤ◌, ◌-ℤ◌, ◌*ℤ◌, ◌≤ℤ◌, slice_index_or}
+use Rattle.std.specs.Prelude.{◌≡◌, ℕ, ◌*◌, ◌<◌, ◌^◌, List, map, length, ℤ, pos, neg_ℤ, ◌+ℤ◌, ◌-ℤ◌, ◌*ℤ◌, ◌≤ℤ◌, slice_index_or}
 use Rattle.std.specs.List.{range_with_len}
 use Rattle.cpl_fixed.specs.Totals.{total_of}
 use Rattle.cpl_fixed.specs.declared.limits.TheConstants.{VAPOUR_HEAT, WATER_HEAT}
@@ -7,10 +7,12 @@ use Rattle.cpl_xgrid.specs.declared.parts.XRef.{XRef}
 use Rattle.cpl_xgrid.specs.declared.parts.Surface.{Surface}
 use Rattle.cpl_xgrid.specs.declared.parts.Surface.TheVariants.{Land, Ocean}
 use Rattle.cpl_fast.specs.declared.flows.Flow.{Flow}
+use Rattle.cpl_fast.specs.declared.flows.Tables.{Tables}
 use Rattle.cpl_fast.specs.declared.sums.Sums.{Sums}
 use Rattle.cpl_fast.specs.declared.sums.After.{After}
 use Rattle.cpl_fast.specs.declared.sums.Taken.{Taken}
-use Rattle.cpl_fast.specs.Flows.{flow_at}
+use Rattle.cpl_fast.specs.Flows.{area_in, flow_at, no_flow}
+use Rattle.cpl_fast.specs.Places.{place_in}
 
 abbrev pub none : Sums
 none = record { heat = pos 0; water = pos 0; sun = pos 0; rain = pos 0 }
@@ -38,33 +40,42 @@ pub record SumsAre (sums : Sums) (total : (Flow → ℤ) → ℤ) : Type 0 where
   pub sun : sums.sun ≡ total (λ (flow : Flow). flow.sun)
   pub rain : sums.rain ≡ total (λ (flow : Flow). flow.rain)
 
--- over the elements of a row
-abbrev pub in_row : List Flow → (width row : ℕ) → (Flow → ℤ) → ℤ
-in_row flows width row number = total_of (map (λ k. number (flow_at flows (row * width + k))) (range_with_len 0 width))
+-- nothing flows through the elements of a row that have the area 0
+abbrev pub IsClear : Tables → List Flow → (row : ℕ) → Type 0
+IsClear tables flows row = (k : ℕ) → k < tables.width → area_in tables row k ≡ pos 0 → flow_at flows (place_in (length tables.links.items) row k) ≡ no_flow
+
+-- nor through those of any row of a list
+abbrev pub AreClear : Tables → List Flow → Type 0
+AreClear tables flows = (row : ℕ) → row < length tables.links.items → IsClear tables flows row
+
+-- over the elements of a row, of so many rows
+abbrev pub in_row : List Flow → (rows width row : ℕ) → (Flow → ℤ) → ℤ
+in_row flows rows width row number = total_of (map (λ k. number (flow_at flows (place_in rows row k))) (range_with_len 0 width))
 
 -- over the elements of exchange cells in part k
-abbrev pub in_part : List Flow → (width k : ℕ) → List XRef → (Flow → ℤ) → ℤ
-in_part flows width k refs number = total_of (map (λ (ref : XRef). number (flow_at flows (ref.row * width + k))) refs)
+abbrev pub in_part : List Flow → (rows k : ℕ) → List XRef → (Flow → ℤ) → ℤ
+in_part flows rows k refs number = total_of (map (λ (ref : XRef). number (flow_at flows (place_in rows ref.row k))) refs)
 
--- over all elements of an exchange cell of a list
-abbrev pub in_list : (land ocean : List Flow) → ℕ → Surface → (row : ℕ) → (Flow → ℤ) → ℤ
-in_list land ocean width Land row number = in_row land 1 row number
-in_list land ocean width Ocean row number = in_row ocean width row number
+-- over all elements of an exchange cell of a list, where the ocean's has so many rows
+abbrev pub in_list : (land ocean : List Flow) → (rows width : ℕ) → Surface → (row : ℕ) → (Flow → ℤ) → ℤ
+in_list land ocean rows width Land row number = in_row land (length land) 1 row number
+in_list land ocean rows width Ocean row number = in_row ocean rows width row number
 
 -- over all elements of exchange cells
-abbrev pub in_rows : (land ocean : List Flow) → ℕ → List XRef → (Flow → ℤ) → ℤ
-in_rows land ocean width refs number = total_of (map (λ (ref : XRef). in_list land ocean width ref.list ref.row number) refs)
+abbrev pub in_rows : (land ocean : List Flow) → (rows width : ℕ) → List XRef → (Flow → ℤ) → ℤ
+in_rows land ocean rows width refs number = total_of (map (λ (ref : XRef). in_list land ocean rows width ref.list ref.row number) refs)
 
--- the elements of an exchange cell stand in the table
-abbrev pub reaches : List Flow → ℕ → XRef → Type 0
-reaches flows width ref = ref.row * width + width ≤ length flows
+-- an exchange cell is one of so many rows
+abbrev pub reaches : (rows : ℕ) → XRef → Type 0
+reaches rows ref = ref.row < rows
 
-abbrev pub within_list : (land ocean : List Flow) → ℕ → Surface → (row : ℕ) → Type 0
-within_list land ocean width Land row = row * 1 + 1 ≤ length land
-within_list land ocean width Ocean row = row * width + width ≤ length ocean
+-- or one of either list, where the ocean's has so many rows
+abbrev pub within_list : (land : List Flow) → (rows : ℕ) → Surface → (row : ℕ) → Type 0
+within_list land rows Land row = row < length land
+within_list land rows Ocean row = row < rows
 
-abbrev pub within : (land ocean : List Flow) → ℕ → XRef → Type 0
-within land ocean width ref = within_list land ocean width ref.list ref.row
+abbrev pub within : (land : List Flow) → (rows : ℕ) → XRef → Type 0
+within land rows ref = within_list land rows ref.list ref.row
 
 -- the heat that flows to the surface, less that of the vapour
 abbrev pub net_heat : Sums → ℤ
@@ -93,12 +104,12 @@ abbrev pub after : (heat water : ℤ) → Taken → (sun : ℤ) → After
 after heat water taken sun = record { heat = heat +ℤ (taken.heat +ℤ sun); water = water +ℤ taken.water; taken = taken }
 
 -- the sums over the elements of exchange cells in part k
-unfoldable pub sums_in : List Flow → (width k : ℕ) → List XRef → Sums
-sums_in flows width k refs = record {
-  heat = in_part flows width k refs (λ (flow : Flow). flow.heat);
-  water = in_part flows width k refs (λ (flow : Flow). flow.water);
-  sun = in_part flows width k refs (λ (flow : Flow). flow.sun);
-  rain = in_part flows width k refs (λ (flow : Flow). flow.rain);
+unfoldable pub sums_in : List Flow → (rows k : ℕ) → List XRef → Sums
+sums_in flows rows k refs = record {
+  heat = in_part flows rows k refs (λ (flow : Flow). flow.heat);
+  water = in_part flows rows k refs (λ (flow : Flow). flow.water);
+  sun = in_part flows rows k refs (λ (flow : Flow). flow.sun);
+  rain = in_part flows rows k refs (λ (flow : Flow). flow.rain);
 }
 
 -- an exchange cell of a list of them

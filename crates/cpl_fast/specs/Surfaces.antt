@@ -1,5 +1,5 @@
 -- Cells of the land and of the ocean's mosaic by the flows of their elements.
-use Rattle.std.specs.Prelude.{ℕ, ◌+◌, ◌*◌, ◌≤◌, List, map, length, ℤ, pos, ◌+ℤ◌, All}
+use Rattle.std.specs.Prelude.{◌≡◌, ℕ, ◌+◌, ◌*◌, ◌<◌, ◌≤◌, List, map, length, ℤ, pos, ◌+ℤ◌, All}
 use Rattle.std.specs.List.{range_with_len}
 use Rattle.cpl_fixed.specs.Amounts.{IsAmount, at}
 use Rattle.cpl_fixed.specs.Totals.{total_of}
@@ -16,7 +16,7 @@ use Rattle.cpl_fast.specs.declared.ocean.IceTaken.{IceTaken}
 use Rattle.cpl_fast.specs.declared.sums.Sums.{Sums}
 use Rattle.cpl_fast.specs.declared.sums.After.{After}
 use Rattle.cpl_fast.specs.declared.sums.Taken.{Taken}
-use Rattle.cpl_fast.specs.Sums.{after, reaches, sums_in, taken, with_rain}
+use Rattle.cpl_fast.specs.Sums.{after, none, reaches, sums_in, taken, with_rain}
 
 -- the exchange cells of cell n of a surface
 abbrev pub tiles_on : XGridLists → Surface → List Tile
@@ -29,12 +29,13 @@ refs_on xgrid list n = refs_of_other list (rows_of xgrid list) (cell_of (tiles_o
 -- their elements stand in the table
 pub record AreRowsOf (list : Surface) (xgrid : XGridLists) (flows : List Flow) (width n : ℕ) : Type 0 where
   pub few : length (refs_on xgrid list n) ≤ MOST_EXCHANGE_CELLS
-  pub rows : All (reaches flows width) (refs_on xgrid list n)
+  pub rows : All (reaches (length (rows_of xgrid list))) (refs_on xgrid list n)
+  pub long : length flows ≡ length (rows_of xgrid list) * width
 
 -- LAND
 
 unfoldable pub land_sums : XGridLists → List Flow → ℕ → Sums
-land_sums xgrid flows n = sums_in flows 1 0 (refs_on xgrid Land n)
+land_sums xgrid flows n = sums_in flows (length (rows_of xgrid Land)) 0 (refs_on xgrid Land n)
 
 -- cell n after the step, from this heat and this water
 unfoldable pub land_at : XGridLists → List Flow → (heat water : ℤ) → ℕ → After
@@ -56,31 +57,36 @@ taken_to n taken_by = record {
 -- ICE
 
 -- the sums of part k of cell n
-unfoldable pub ocean_sums : XGridLists → List Flow → (width n k : ℕ) → Sums
-ocean_sums xgrid flows width n k = sums_in flows width k (refs_on xgrid Ocean n)
+unfoldable pub ocean_sums : XGridLists → List Flow → (n k : ℕ) → Sums
+ocean_sums xgrid flows n k = sums_in flows (length (rows_of xgrid Ocean)) k (refs_on xgrid Ocean n)
+
+-- nothing flows through the parts of cell n that have the area 0
+abbrev pub IsStill : XGridLists → List Flow → (area : List ℤ) → (categories n : ℕ) → Type 0
+IsStill xgrid flows area categories n =
+    (k : ℕ) → k < categories + 1 → at area (n * (categories + 1) + k) ≡ pos 0 → ocean_sums xgrid flows n k ≡ none
 
 -- what a category gains, the sun with it
-abbrev pub category_gain : XGridLists → List Flow → (categories n k : ℕ) → ℤ
-category_gain xgrid flows categories n k =
-    (ocean_sums xgrid flows (categories + 1) n (k + 1)).heat +ℤ (ocean_sums xgrid flows (categories + 1) n (k + 1)).sun
+abbrev pub category_gain : XGridLists → List Flow → (n k : ℕ) → ℤ
+category_gain xgrid flows n k =
+    (ocean_sums xgrid flows n (k + 1)).heat +ℤ (ocean_sums xgrid flows n (k + 1)).sun
 
 pub record CanGainIce (xgrid : XGridLists) (flows : List Flow) (categories : ℕ) (heat : List ℤ) (n k : ℕ) : Type 0 where
-  pub range : IsAmount (at heat (n * categories + k) +ℤ category_gain xgrid flows categories n k)
+  pub range : IsAmount (at heat (n * categories + k) +ℤ category_gain xgrid flows n k)
 
 -- the rain on all categories of a cell, and the heat that they take
 unfoldable pub ice_of : XGridLists → List Flow → (categories n : ℕ) → IceTaken
 ice_of xgrid flows categories n = record {
-  rain = total_of (map (λ k. (ocean_sums xgrid flows (categories + 1) n (k + 1)).rain) (range_with_len 0 categories));
-  heat = total_of (map (λ k. (ocean_sums xgrid flows (categories + 1) n (k + 1)).heat) (range_with_len 0 categories));
+  rain = total_of (map (λ k. (ocean_sums xgrid flows n (k + 1)).rain) (range_with_len 0 categories));
+  heat = total_of (map (λ k. (ocean_sums xgrid flows n (k + 1)).heat) (range_with_len 0 categories));
 }
 
 -- what the skin of a cell takes
 abbrev pub skin_of : XGridLists → List Flow → (categories n : ℕ) → Taken
-skin_of xgrid flows categories n = with_rain (taken (ocean_sums xgrid flows (categories + 1) n 0)) (ice_of xgrid flows categories n).rain
+skin_of xgrid flows categories n = with_rain (taken (ocean_sums xgrid flows n 0)) (ice_of xgrid flows categories n).rain
 
 -- the skin after the step, from this heat and this water, and what the cell takes with its categories
 unfoldable pub skin_at : XGridLists → List Flow → (categories : ℕ) → (heat water : ℤ) → ℕ → After
-skin_at xgrid flows categories heat water n = after heat water (skin_of xgrid flows categories n) (ocean_sums xgrid flows (categories + 1) n 0).sun
+skin_at xgrid flows categories heat water n = after heat water (skin_of xgrid flows categories n) (ocean_sums xgrid flows n 0).sun
 
 pub record CanGainSkin (xgrid : XGridLists) (flows : List Flow) (categories : ℕ) (heat water : ℤ) (n : ℕ) : Type 0 where
   pub rows : AreRowsOf Ocean xgrid flows (categories + 1) n

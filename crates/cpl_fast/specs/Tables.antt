@@ -1,5 +1,5 @@
 -- The tables that flows are looked up in: the links of the rows, the areas of the elements, the parts of the surface and the skies.
-use Rattle.std.specs.Prelude.{◌≡◌, ℕ, zero, suc, ◌+◌, ◌*◌, ◌<◌, ◌≤◌, List, map, take, length, ℤ, pos, ◌+ℤ◌, ◌≤ℤ◌, slice_index_or, slice_range, All}
+use Rattle.std.specs.Prelude.{◌≡◌, ◌≢◌, ℕ, zero, suc, ◌+◌, ◌*◌, ◌<◌, ◌≤◌, List, map, take, length, ℤ, pos, ◌+ℤ◌, ◌≤ℤ◌, slice_index_or, slice_range, All}
 use Rattle.cpl_fixed.specs.Amounts.{at}
 use Rattle.cpl_fixed.specs.Shares.{part_of}
 use Rattle.cpl_fixed.specs.Totals.{total_of}
@@ -92,6 +92,10 @@ sky_by rates strength heat vapour area sun n = sky_under rates strength (at sun 
 -- a part of the surface with its temperature
 abbrev pub warm_part : Rates → Part → WarmPart
 warm_part rates part = record { part = part; temperature = part_temperature rates part }
+
+-- what stands in a table for a part that has an area is that part; for any other, whatever was there
+abbrev pub StandsFor : Rates → Part → WarmPart → Type 0
+StandsFor rates part warm = part.area ≢ pos 0 → warm ≡ warm_part rates part
 
 -- a part by its numbers
 abbrev pub part_by : Kind → (heat mass area : ℤ) → Part

@@ -36,6 +36,7 @@ impl Tables {
         requires rows { length links.items ≤ MOST_EXCHANGE_CELLS }
         requires width { width ≤ 6 }
         ensures width { IfOk result (λ tables. tables.width ≡ width) }
+        ensures cells { IfOk result (λ tables. tables.cells ≡ cells) }
         ensures links { IfOk result (λ tables. tables.links.items ≡ links.items) }
         ensures areas { IfOk result (λ tables. length tables.areas.items ≡ length links.items * width) }
         ensures parts { IfOk result (λ tables. length tables.parts.items ≡ cells * width) }
@@ -44,6 +45,7 @@ impl Tables {
         let parts = vec![in alloc; NO_PART; cells as usize * width]?;
         Ok(Tables {
             width,
+            cells: cells as usize,
             links,
             areas,
             parts,

@@ -4,8 +4,11 @@ ghost use Rattle.cpl_fixed.specs.Ranges.{AreRates, IsFromℤ};
 ghost use Rattle.cpl_flux.specs.Elements.{IsPart, IsElement};
 ghost use Rattle.cpl_flux.specs.declared.temperatures.TheConstants.{HOTTEST};
 ghost use Rattle.cpl_restart.specs.FastStep.{albedo};
-ghost use Rattle.cpl_fast.specs.Flows.{ArePortions, CanFlow, IsSky, area_in, flow_at, flow_in, flow_through, link_at, part_in, sky_of};
+ghost use Rattle.cpl_fast.specs.Sums.{AreClear, IsClear};
+ghost use Rattle.cpl_fast.specs.Flows.{ArePortions, CanFlow, IsSky, area_in, before_in, flow_at, flow_in, flow_through, link_at, part_in, sky_of};
+ghost use Rattle.cpl_fast.specs.Places.{place_in};
 
+use crate::layout::place_in;
 use crate::numbers::part_of;
 use crate::portions::Portions;
 use cpl_fixed::Rates;
@@ -37,6 +40,14 @@ pub struct Flow {
     pub rain: i64,
 }
 
+// Nothing flows.
+pub(crate) const NO_FLOW: Flow = Flow {
+    heat: 0,
+    water: 0,
+    sun: 0,
+    rain: 0,
+};
+
 /// An exchange cell: the numbers of its cells in the air and on the surface, and the area of those before it in its cell of the air.
 #[derive(Clone, Copy)]
 pub struct Link {
@@ -45,11 +56,12 @@ pub struct Link {
     pub before: i64,
 }
 
-/// The exchange cells of a list: their links, the areas of their elements, row by row, and the parts of the surface, cell by cell.
-/// Each row has `width` elements, and each cell as many parts.
+/// The exchange cells of a list: their links, the areas of their elements, row by row, and the parts of so many cells of the surface,
+/// part by part. Each row has `width` elements, and each cell as many parts.
 #[derive(Drop)]
 pub struct Tables {
     pub(crate) width: usize,
+    pub(crate) cells: usize,
     pub(crate) links: Vec<Link>,
     pub(crate) areas: Vec<i64>,
     pub(crate) parts: Vec<WarmPart>,
@@ -74,14 +86,26 @@ impl Tables {
         self.areas[row * self.width + k]
     }
 
+    // Where its flow stands.
+    #[inline]
+    pub(crate) fn place(&self, row: usize, k: usize) -> usize
+        requires row { row < length self.now.links.items }
+        requires element { k < self.now.width }
+        requires areas { length self.now.areas.items ≡ length self.now.links.items * self.now.width }
+        ensures value { result ≡ place_in (length self.now.links.items) row k }
+        ensures within { result < length self.now.links.items * self.now.width }
+    {
+        place_in(self.links.len(), row, k)
+    }
+
     // Its part of the surface.
     #[inline]
     fn part(&self, row: usize, k: usize) -> WarmPart
         requires row { row < length self.now.links.items }
-        requires place { (link_at self.now.links.items row).surface * self.now.width + k < length self.now.parts.items }
+        requires place { place_in self.now.cells (link_at self.now.links.items row).surface k < length self.now.parts.items }
         ensures { result ≡ part_in self.now row k }
     {
-        self.parts[self.link(row).surface as usize * self.width + k]
+        self.parts[place_in(self.cells, self.link(row).surface as usize, k)]
     }
 }
 
@@ -142,7 +166,40 @@ pub fn flow_through(
     }
 }
 
-// What flows through the elements of a row, before it rains.
+// What flows through the k-th element of a row, which has an area, before it rains. `portions` are the shares of the sun from this
+// element on.
+#[inline]
+fn element_flow(
+    rates: &Rates,
+    list: Surface,
+    sky: &Sky,
+    tables: &Tables,
+    row: usize,
+    k: usize,
+    portions: &mut Portions,
+) -> Flow
+    requires rates { AreRates rates.now }
+    requires can { CanFlow sky.now tables.now row k }
+    requires wide { area_in tables.now row k ≢ pos 0 }
+    requires row { row < length tables.now.links.items }
+    requires element { k < tables.now.width }
+    requires areas { length tables.now.areas.items ≡ length tables.now.links.items * tables.now.width }
+    requires portions { ArePortions portions.old }
+    requires sun { portions.old.amount ≡ sky.now.sun }
+    requires whole { portions.old.whole ≡ sky.now.air.area }
+    requires from { portions.old.from ≡ before_in tables.now row k }
+    ensures value { result ≡ flow_in rates.now list sky.now tables.now row k }
+    ensures portions { ArePortions portions.new }
+    ensures amount { portions.new.amount ≡ portions.old.amount }
+    ensures whole { portions.new.whole ≡ portions.old.whole }
+    ensures from { portions.new.from ≡ before_in tables.now row (k + 1) }
+{
+    let b = tables.area(row, k);
+    let albedo = albedo(rates, list, k);
+    flow_through(rates, sky, &tables.part(row, k), albedo, b, portions)
+}
+
+// What flows through the elements of a row, before it rains. Those of the area 0 are passed over: nothing flows through them.
 fn row_flows(
     rates: &Rates,
     list: Surface,
@@ -157,21 +214,18 @@ fn row_flows(
     requires some { 0 < tables.now.width }
     requires flows { length flows.old ≡ length tables.now.links.items * tables.now.width }
     requires areas { length tables.now.areas.items ≡ length tables.now.links.items * tables.now.width }
-    ensures row { (k : ℕ) → k < tables.now.width → flow_at flows.new (row * tables.now.width + k) ≡ flow_in rates.now list sky.now tables.now row k }
-    ensures others { (n : ℕ) → n < row * tables.now.width → flow_at flows.new n ≡ flow_at flows.old n }
+    requires clear { IsClear tables.now flows.old row }
+    ensures row { (k : ℕ) → k < tables.now.width → flow_at flows.new (place_in (length tables.now.links.items) row k) ≡ flow_in rates.now list sky.now tables.now row k }
+    ensures others { (r k : ℕ) → r < length tables.now.links.items → r ≢ row
+        → flow_at flows.new (place_in (length tables.now.links.items) r k) ≡ flow_at flows.old (place_in (length tables.now.links.items) r k) }
 {
     let link = tables.link(row);
     let mut portions = Portions::new(sky.sun, link.before, sky.air.area);
     for k in 0..tables.width {
-        let (warm, b) = (tables.part(row, k), tables.area(row, k));
-        flows[row * tables.width + k] = flow_through(
-            rates,
-            sky,
-            &warm,
-            albedo(rates, list, k),
-            b,
-            &mut portions,
-        );
+        if tables.area(row, k) != 0 {
+            let flow = element_flow(rates, list, sky, tables, row, k, &mut portions);
+            flows[tables.place(row, k)] = flow;
+        }
     }
 }
 
@@ -189,8 +243,9 @@ pub(crate) fn list_flows(
     requires some { 0 < tables.now.width }
     requires flows { length flows.old ≡ length tables.now.links.items * tables.now.width }
     requires areas { length tables.now.areas.items ≡ length tables.now.links.items * tables.now.width }
+    requires clear { AreClear tables.now flows.old }
     ensures { (row k : ℕ) → row < length tables.now.links.items → k < tables.now.width
-        → flow_at flows.new (row * tables.now.width + k) ≡ flow_in rates.now list (sky_of skies.now tables.now row) tables.now row k }
+        → flow_at flows.new (place_in (length tables.now.links.items) row k) ≡ flow_in rates.now list (sky_of skies.now tables.now row) tables.now row k }
 {
     for row in 0..tables.links.len() {
         let sky = &skies[tables.link(row).air as usize];

@@ -9,7 +9,7 @@ ghost use Rattle.cpl_fast.specs.Sums.{AreSmall, IsSmallTaken};
 
 use crate::flows::Flow;
 use crate::sums::{After, Sums, Taken, gain, part_sums, taken_by};
-use cpl_xgrid::XGrid;
+use cpl_xgrid::{Surface, XGrid};
 
 // The sums of the flows of cell n of the land.
 fn land_sums(xgrid: &XGrid, flows: &[Flow], n: u32) -> Sums
@@ -18,7 +18,12 @@ fn land_sums(xgrid: &XGrid, flows: &[Flow], n: u32) -> Sums
     ensures value { result ≡ land_sums xgrid.now flows.now n }
     ensures small { AreSmall (2 ^ 30) result }
 {
-    part_sums(xgrid.cells_of_land(n), flows, 1, 0)
+    part_sums(
+        xgrid.cells_of_land(n),
+        flows,
+        xgrid.rows(Surface::Land).len(),
+        0,
+    )
 }
 
 // Cell n of the land after the step.

@@ -6,6 +6,7 @@ mod divide;
 mod fast;
 mod flows;
 mod land;
+mod layout;
 mod look;
 mod numbers;
 mod ocean;

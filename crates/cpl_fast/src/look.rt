@@ -20,6 +20,7 @@ impl Tables {
         requires areas { AreElementAreas grid.now mid.now.whole Land self.old.areas.items }
         requires parts { ArePartAreas grid.now mid.now.whole Land area.now }
         ensures tables { AreTables (before_step grid.now rates.now month mid.now) Land self.new }
+        ensures others { self.new ≡ record self.old { parts = self.new.parts } }
     {
         // The contracts of `cells` have the laws of numbers.
         let _airs = grid.air.mosaic.cells();
@@ -40,6 +41,7 @@ impl Tables {
         requires areas { AreElementAreas grid.now mid.now.whole Ocean self.old.areas.items }
         requires parts { ArePartAreas grid.now mid.now.whole Ocean area.now }
         ensures tables { AreTables (before_step grid.now rates.now month mid.now) Ocean self.new }
+        ensures others { self.new ≡ record self.old { parts = self.new.parts } }
     {
         // The contracts of `cells` have the laws of numbers.
         let _airs = grid.air.mosaic.cells();

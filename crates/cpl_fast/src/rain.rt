@@ -1,15 +1,16 @@
 // Rain on the elements of a list.
-ghost use Rattle.std.specs.Prelude.{◌≡◌, ℕ, ◌+◌, ◌*◌, ◌<◌, ◌≤◌, length};
+ghost use Rattle.std.specs.Prelude.{◌≡◌, ◌≢◌, ℕ, ◌*◌, ◌<◌, ◌≤◌, length};
 ghost use Rattle.cpl_fixed.specs.Amounts.{IsAmount, at};
 ghost use Rattle.cpl_fast.specs.Flows.{flow_at, link_at, sky_at};
+ghost use Rattle.cpl_fast.specs.Places.{place_in};
 ghost use Rattle.cpl_fast.specs.Rain.{CanRainOn, in_list, rained_on};
-ghost use Rattle.cpl_fast.specs.Sums.{AreSmall, SumsAre};
+ghost use Rattle.cpl_fast.specs.Sums.{AreClear, AreSmall, IsClear, SumsAre};
 
 use crate::flows::{Flow, Sky, Tables};
 use crate::portions::Portions;
 use crate::sums::{Sums, row_sums};
 
-// Rain on the elements of a row, from a cell of the air with this rain and this area.
+// Rain on the elements of a row, from a cell of the air with this rain and this area. Those of the area 0 aren't looked at.
 fn row_rain(rain: i64, area: i64, tables: &Tables, row: usize, flows: &mut [Flow])
     requires rain { IsAmount rain }
     requires can { (k : ℕ) → k < tables.now.width → CanRainOn area tables.now row k }
@@ -17,14 +18,17 @@ fn row_rain(rain: i64, area: i64, tables: &Tables, row: usize, flows: &mut [Flow
     requires some { 0 < tables.now.width }
     requires flows { length flows.old ≡ length tables.now.links.items * tables.now.width }
     requires areas { length tables.now.areas.items ≡ length tables.now.links.items * tables.now.width }
-    ensures row { (k : ℕ) → k < tables.now.width → flow_at flows.new (row * tables.now.width + k) ≡ rained_on rain area tables.now flows.old row k }
-    ensures before { (n : ℕ) → n < row * tables.now.width → flow_at flows.new n ≡ flow_at flows.old n }
-    ensures behind { (n : ℕ) → (row + 1) * tables.now.width ≤ n → flow_at flows.new n ≡ flow_at flows.old n }
+    requires clear { IsClear tables.now flows.old row }
+    ensures row { (k : ℕ) → k < tables.now.width → flow_at flows.new (place_in (length tables.now.links.items) row k) ≡ rained_on rain area tables.now flows.old row k }
+    ensures others { (r k : ℕ) → r < length tables.now.links.items → r ≢ row
+        → flow_at flows.new (place_in (length tables.now.links.items) r k) ≡ flow_at flows.old (place_in (length tables.now.links.items) r k) }
 {
     let mut portions = Portions::new(rain, tables.link(row).before, area);
     for k in 0..tables.width {
-        let place = row * tables.width + k;
-        flows[place].rain = portions.next(tables.area(row, k));
+        let b = tables.area(row, k);
+        if b != 0 {
+            flows[tables.place(row, k)].rain = portions.next(b);
+        }
     }
 }
 
@@ -39,17 +43,18 @@ pub(crate) fn list_rain(skies: &[Sky], rain: &[i64], tables: &Tables, flows: &mu
     requires few { length tables.now.links.items ≤ 1_048_576 }
     requires flows { length flows.old ≡ length tables.now.links.items * tables.now.width }
     requires areas { length tables.now.areas.items ≡ length tables.now.links.items * tables.now.width }
+    requires clear { AreClear tables.now flows.old }
     ensures flows { (row k : ℕ) → row < length tables.now.links.items → k < tables.now.width
-        → flow_at flows.new (row * tables.now.width + k)
+        → flow_at flows.new (place_in (length tables.now.links.items) row k)
         ≡ rained_on (at rain.now (link_at tables.now.links.items row).air) (sky_at skies.now (link_at tables.now.links.items row).air).air.area tables.now flows.old row k }
-    ensures sums { SumsAre result (in_list flows.new tables.now.width (length tables.now.links.items)) }
+    ensures sums { SumsAre result (in_list flows.new (length tables.now.links.items) tables.now.width) }
     ensures small { AreSmall (6 * length tables.now.links.items) result }
 {
     let mut sums = Sums::none();
     for row in 0..tables.links.len() {
         let air = tables.link(row).air as usize;
         row_rain(rain[air], skies[air].air.area, tables, row, flows);
-        sums.join(&row_sums(flows, tables.width, row));
+        sums.join(&row_sums(tables, flows, row));
     }
     sums
 }

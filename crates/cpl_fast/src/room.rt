@@ -1,11 +1,12 @@
 // Room for fast steps.
-ghost use Rattle.std.specs.Prelude.{◌≡◌, IfOk};
+ghost use Rattle.std.specs.Prelude.{◌≡◌, ℕ, ◌<◌, length, IfOk};
+ghost use Rattle.cpl_fast.specs.Flows.{flow_at, no_flow};
 ghost use Rattle.cpl_restart.specs.Diffusion.{IsAirMesh};
 ghost use Rattle.cpl_restart.specs.States.{IsWhole};
 ghost use Rattle.cpl_xgrid.specs.Grids.{IsGrid};
 ghost use Rattle.cpl_fast.specs.Rooms.{IsDivided, IsFastRoom};
 
-use crate::flows::{Flow, Sky, Tables};
+use crate::flows::{Flow, NO_FLOW, Sky, Tables};
 use crate::tables::{GridLinks, links_of, sum_land_areas, sum_ocean_areas};
 use cpl_diffusion::{Room, Ways, make_room, make_ways};
 use cpl_flux::{AirSide, Weather};
@@ -13,14 +14,7 @@ use cpl_restart::Whole;
 use cpl_xgrid::Grid;
 use std::alloc::{AllocError, Global};
 
-// What stands in the lists before a step has filled them.
-const NO_FLOW: Flow = Flow {
-    heat: 0,
-    water: 0,
-    sun: 0,
-    rain: 0,
-};
-
+// What stands in the skies before a step has filled them.
 const NO_SKY: Sky = Sky {
     air: AirSide {
         heat: 0,
@@ -60,6 +54,15 @@ pub struct FastRoom {
     pub(crate) skin_heat: Vec<i64>,
 }
 
+// Nothing flows through any element.
+fn clear(flows: &mut [Flow])
+    ensures { (n : ℕ) → n < length flows.old → flow_at flows.new n ≡ no_flow }
+{
+    for n in 0..flows.len() {
+        flows[n] = NO_FLOW;
+    }
+}
+
 impl FastRoom {
     /// Room for the fast steps of a grid. Its time is linear in the cells and the exchange cells.
     pub fn new(alloc: Global, grid: &Grid) -> Result<FastRoom, AllocError>
@@ -95,7 +98,7 @@ impl FastRoom {
         })
     }
 
-    /// Sets the areas of the elements and of the parts of a state. They change with the parts of the ice alone, so that this is done
+    /// Sets the areas of the elements and of the parts of a state, and lets nothing flow yet. They change with the parts of the ice alone, so that this is done
     /// once before the fast steps of a coupling step. It takes no memory.
     pub fn divide(&mut self, grid: &Grid, whole: &Whole)
         requires room { IsFastRoom grid.now self.old }
@@ -117,5 +120,7 @@ impl FastRoom {
             self.ocean.width,
             &mut self.ocean_area,
         );
+        clear(&mut self.land_flows);
+        clear(&mut self.ocean_flows);
     }
 }

@@ -64,7 +64,7 @@ impl FastRoom {
             view.rates,
             &view.grid.xgrid,
             &self.skies,
-            self.ocean.width,
+            &self.ocean,
             &self.land_flows,
             &self.ocean_flows,
             &mut self.air_heat,

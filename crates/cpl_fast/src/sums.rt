@@ -2,9 +2,10 @@
 ghost use Rattle.std.specs.Prelude.{◌≡◌, ℕ, ◌+◌, ◌*◌, ◌<◌, ◌≤◌, ◌^◌, ◌+ℤ◌, length, All};
 ghost use Rattle.cpl_fixed.specs.Amounts.{IsAmount};
 ghost use Rattle.cpl_fixed.specs.declared.limits.TheConstants.{MOST_EXCHANGE_CELLS};
-ghost use Rattle.cpl_fast.specs.Sums.{AreSmall, IsSmallTaken, SumsAre, after, both_taken, in_list, in_part, in_row, in_rows, IsSmall, joined, net_heat, none, nothing, of_flow, reaches, taken, with_rain, within};
+ghost use Rattle.cpl_fast.specs.Sums.{AreClear, AreSmall, IsClear, IsSmallTaken, SumsAre, after, both_taken, in_list, in_part, in_row, in_rows, IsSmall, joined, net_heat, none, nothing, of_flow, reaches, taken, with_rain, within};
 
-use crate::flows::Flow;
+use crate::flows::{Flow, Tables};
+use crate::layout::place_in;
 use cpl_fixed::{VAPOUR_HEAT, WATER_HEAT};
 use cpl_xgrid::{Surface, XRef};
 
@@ -59,61 +60,71 @@ impl Sums {
     }
 }
 
-/// The sums over the elements of a row, of which each row has `width`.
-pub fn row_sums(flows: &[Flow], width: usize, row: usize) -> Sums
-    requires width { width ≤ 6 }
-    requires row { row * width + width ≤ length flows.now }
-    ensures value { SumsAre result (in_row flows.now width row) }
-    ensures small { AreSmall width result }
+// The sums over the elements of a row. Those of the area 0 aren't looked at.
+pub(crate) fn row_sums(tables: &Tables, flows: &[Flow], row: usize) -> Sums
+    requires width { tables.now.width ≤ 6 }
+    requires row { row < length tables.now.links.items }
+    requires flows { length flows.now ≡ length tables.now.links.items * tables.now.width }
+    requires areas { length tables.now.areas.items ≡ length flows.now }
+    requires clear { IsClear tables.now flows.now row }
+    ensures value { SumsAre result (in_row flows.now (length tables.now.links.items) tables.now.width row) }
+    ensures small { AreSmall tables.now.width result }
 {
-    let first = row * width;
     let mut sums = Sums::none();
-    for k in 0..width {
-        sums.join(&Sums::of(&flows[first + k]));
+    for k in 0..tables.width {
+        if tables.area(row, k) != 0 {
+            sums.join(&Sums::of(&flows[tables.place(row, k)]));
+        }
     }
     sums
 }
 
-/// The sums over the elements of exchange cells in part `k`, where each row has `width` elements.
-pub fn part_sums(refs: &[XRef], flows: &[Flow], width: usize, k: usize) -> Sums
+/// The sums over the elements of exchange cells in part `k`, where the list has so many rows, and the flows stand part by part.
+pub fn part_sums(refs: &[XRef], flows: &[Flow], rows: usize, k: usize) -> Sums
     requires few { length refs.now ≤ MOST_EXCHANGE_CELLS }
-    requires rows { All (reaches flows.now width) refs.now }
-    requires part { k < width }
-    ensures value { SumsAre result (in_part flows.now width k refs.now) }
+    requires reach { All (reaches rows) refs.now }
+    requires part { k * rows + rows ≤ length flows.now }
+    ensures value { SumsAre result (in_part flows.now rows k refs.now) }
     ensures small { AreSmall (length refs.now) result }
 {
     let mut sums = Sums::none();
     for xref in refs {
-        sums.join(&Sums::of(&flows[xref.row as usize * width + k]));
+        sums.join(&Sums::of(&flows[place_in(rows, xref.row as usize, k)]));
     }
     sums
 }
 
-// The sums over the elements of an exchange cell of either list.
-fn list_sums(xref: XRef, width: usize, land: &[Flow], ocean: &[Flow]) -> Sums
-    requires width { width ≤ 6 }
-    requires row { within land.now ocean.now width xref }
-    ensures value { SumsAre result (in_list land.now ocean.now width xref.list xref.row) }
+// The sums over the elements of an exchange cell of either list. A row of the land has one.
+fn list_sums(xref: XRef, tables: &Tables, land: &[Flow], ocean: &[Flow]) -> Sums
+    requires width { tables.now.width ≤ 6 }
+    requires row { within land.now (length tables.now.links.items) xref }
+    requires flows { length ocean.now ≡ length tables.now.links.items * tables.now.width }
+    requires areas { length tables.now.areas.items ≡ length ocean.now }
+    requires clear { AreClear tables.now ocean.now }
+    ensures value { SumsAre result (in_list land.now ocean.now (length tables.now.links.items) tables.now.width xref.list xref.row) }
     ensures small { AreSmall 6 result }
 {
     let row = xref.row as usize;
     match xref.list {
-        Surface::Land => row_sums(land, 1, row),
-        Surface::Ocean => row_sums(ocean, width, row),
+        Surface::Land => Sums::of(&land[row]),
+        Surface::Ocean => row_sums(tables, ocean, row),
     }
 }
 
-/// The sums over all elements of exchange cells of both lists, where each row of the ocean's has `width` elements.
-pub fn air_sums(refs: &[XRef], width: usize, land: &[Flow], ocean: &[Flow]) -> Sums
+// The sums over all elements of exchange cells of both lists. The tables are the ocean's.
+pub(crate) fn air_sums(refs: &[XRef], tables: &Tables, land: &[Flow], ocean: &[Flow]) -> Sums
     requires few { length refs.now ≤ MOST_EXCHANGE_CELLS }
-    requires width { width ≤ 6 }
-    requires rows { All (within land.now ocean.now width) refs.now }
-    ensures value { SumsAre result (in_rows land.now ocean.now width refs.now) }
+    requires width { tables.now.width ≤ 6 }
+    requires rows { All (within land.now (length tables.now.links.items)) refs.now }
+    requires flows { length ocean.now ≡ length tables.now.links.items * tables.now.width }
+    requires areas { length tables.now.areas.items ≡ length ocean.now }
+    requires clear { AreClear tables.now ocean.now }
+    ensures value { SumsAre result (in_rows land.now ocean.now (length tables.now.links.items) tables.now.width refs.now) }
     ensures small { AreSmall (6 * length refs.now) result }
 {
     let mut sums = Sums::none();
     for xref in refs {
-        sums.join(&list_sums(*xref, width, land, ocean));
+        sums.join(&list_sums(*xref, tables, land, ocean));
     }
     sums
 }

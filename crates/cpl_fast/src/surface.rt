@@ -39,6 +39,7 @@ impl FastRoom {
         ocean_lists(
             &view.grid.xgrid,
             &self.ocean_flows,
+            &self.ocean_area,
             view.grid.column.categories as usize,
             view.mid.whole.ice_heat.as_slice(),
             view.mid.skin_heat.as_slice(),

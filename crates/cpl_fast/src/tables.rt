@@ -1,5 +1,5 @@
 // The tables that flows are looked up in.
-ghost use Rattle.std.specs.Prelude.{◌≡◌, ℕ, ◌+◌, ◌*◌, ◌<◌, ◌≤◌, length, pos, ◌≤ℤ◌, IfOk, All, take};
+ghost use Rattle.std.specs.Prelude.{◌≡◌, ◌≢◌, ℕ, ◌+◌, ◌*◌, ◌<◌, ◌≤◌, length, pos, ◌≤ℤ◌, IfOk, All, take};
 ghost use Rattle.cpl_fixed.specs.Amounts.{IsAmount, at};
 ghost use Rattle.cpl_fixed.specs.Ranges.{AreRates};
 ghost use Rattle.cpl_fixed.specs.Shares.{part_of, share};
@@ -14,9 +14,11 @@ ghost use Rattle.cpl_xgrid.specs.Grids.{IsGrid};
 ghost use Rattle.cpl_xgrid.specs.declared.parts.Surface.TheVariants.{Land, Ocean};
 ghost use Rattle.cpl_xgrid.specs.declared.parts.XRef.{XRef};
 ghost use Rattle.cpl_fast.specs.Flows.{link_at, sky_at, warm_at};
-ghost use Rattle.cpl_fast.specs.Tables.{AreLinked, AreLinks, CanLink, CanSumAreas, area_over, cells_on, ice_by, land_by, ocean_by, part_by, parts_of, row_in, side_of, sky_by, sky_under, warm_part};
+ghost use Rattle.cpl_fast.specs.Places.{place_in};
+ghost use Rattle.cpl_fast.specs.Tables.{AreLinked, AreLinks, CanLink, CanSumAreas, StandsFor, area_over, cells_on, ice_by, land_by, ocean_by, part_by, parts_of, row_in, side_of, sky_by, sky_under, warm_part};
 
 use crate::flows::{Link, Sky, WarmPart};
+use crate::layout::place_in;
 use crate::numbers::part_of;
 use crate::portions::Portions;
 use cpl_fixed::{MOST_TOTAL, PARTS, Rates};
@@ -173,9 +175,10 @@ pub(crate) fn fill_land(
     }
 }
 
-// The categories of a cell of the ocean's mosaic.
+// The categories of a cell of the ocean's mosaic, of so many cells. One of the area 0 is passed over.
 fn fill_categories(
     rates: &Rates,
+    cells: usize,
     n: usize,
     ice_heat: &[i64],
     ice: &[i64],
@@ -185,19 +188,24 @@ fn fill_categories(
 )
     requires rates { AreRates rates.now }
     requires few { categories ≤ 5 }
-    requires cell { n * (categories + 1) + (categories + 1) ≤ length parts.old }
+    requires cell { n < cells }
+    requires parts { length parts.old ≡ cells * (categories + 1) }
     requires heat { n * categories + categories ≤ length ice_heat.now }
     requires mass { n * categories + categories ≤ length ice.now }
     requires area { length area.now ≡ length parts.old }
     requires each { (k : ℕ) → k < categories → IsPart (ice_by ice_heat.now ice.now area.now categories n k) }
     ensures count { length parts.new ≡ length parts.old }
-    ensures value { (k : ℕ) → k < categories → warm_at parts.new (n * (categories + 1) + 1 + k) ≡ warm_part rates.now (ice_by ice_heat.now ice.now area.now categories n k) }
-    ensures others { (i : ℕ) → i < n * (categories + 1) + 1 → warm_at parts.new i ≡ warm_at parts.old i }
+    ensures value { (k : ℕ) → k < categories → StandsFor rates.now (ice_by ice_heat.now ice.now area.now categories n k) (warm_at parts.new (place_in cells n (k + 1))) }
+    ensures first { warm_at parts.new (place_in cells n 0) ≡ warm_at parts.old (place_in cells n 0) }
+    ensures others { (m j : ℕ) → m < cells → m ≢ n → warm_at parts.new (place_in cells m j) ≡ warm_at parts.old (place_in cells m j) }
 {
     for k in 0..categories {
-        let from = n * categories + k;
         let place = n * (categories + 1) + 1 + k;
-        parts[place] = warm(rates, Kind::Ice, ice_heat[from], ice[from], area[place]);
+        if area[place] != 0 {
+            let from = n * categories + k;
+            let part = warm(rates, Kind::Ice, ice_heat[from], ice[from], area[place]);
+            parts[place_in(cells, n, k + 1)] = part;
+        }
     }
 }
 
@@ -215,27 +223,29 @@ pub(crate) struct OceanLists<'a> {
 fn fill_cell(rates: &Rates, lists: OceanLists, n: usize, categories: usize, parts: &mut [WarmPart])
     requires rates { AreRates rates.now }
     requires few { categories ≤ 5 }
-    requires cell { n * (categories + 1) + (categories + 1) ≤ length parts.old }
-    requires skins { n < length lists.heat.now }
+    requires cell { n < length lists.heat.now }
+    requires parts { length parts.old ≡ length lists.heat.now * (categories + 1) }
     requires water { length lists.water.now ≡ length lists.heat.now }
     requires heat { n * categories + categories ≤ length lists.ice_heat.now }
     requires mass { n * categories + categories ≤ length lists.ice.now }
     requires area { length lists.area.now ≡ length parts.old }
     requires each { (k : ℕ) → k < categories + 1 → IsPart (ocean_by lists.heat.now lists.water.now lists.ice_heat.now lists.ice.now lists.area.now categories n k) }
     ensures count { length parts.new ≡ length parts.old }
-    ensures value { (k : ℕ) → k < categories + 1 → warm_at parts.new (n * (categories + 1) + k) ≡ warm_part rates.now (ocean_by lists.entry.heat.now lists.entry.water.now lists.entry.ice_heat.now lists.entry.ice.now lists.entry.area.now categories n k) }
-    ensures others { (i : ℕ) → i < n * (categories + 1) → warm_at parts.new i ≡ warm_at parts.old i }
+    ensures value { (k : ℕ) → k < categories + 1 → StandsFor rates.now (ocean_by lists.entry.heat.now lists.entry.water.now lists.entry.ice_heat.now lists.entry.ice.now lists.entry.area.now categories n k) (warm_at parts.new (place_in (length lists.entry.heat.now) n k)) }
+    ensures others { (m j : ℕ) → m < length lists.entry.heat.now → m ≢ n → warm_at parts.new (place_in (length lists.entry.heat.now) m j) ≡ warm_at parts.old (place_in (length lists.entry.heat.now) m j) }
 {
-    let place = n * (categories + 1);
-    parts[place] = warm(
+    let cells = lists.heat.len();
+    let part = warm(
         rates,
         Kind::Water,
         lists.heat[n],
         lists.water[n],
-        lists.area[place],
+        lists.area[n * (categories + 1)],
     );
+    parts[place_in(cells, n, 0)] = part;
     fill_categories(
         rates,
+        cells,
         n,
         lists.ice_heat,
         lists.ice,
@@ -245,7 +255,7 @@ fn fill_cell(rates: &Rates, lists: OceanLists, n: usize, categories: usize, part
     );
 }
 
-// The parts of all cells of the ocean's mosaic, cell by cell.
+// The parts of all cells of the ocean's mosaic that have an area, part by part.
 pub(crate) fn fill_ocean(
     rates: &Rates,
     lists: OceanLists,
@@ -262,7 +272,7 @@ pub(crate) fn fill_ocean(
     requires each { (n k : ℕ) → n < length lists.heat.now → k < categories + 1 → IsPart (ocean_by lists.heat.now lists.water.now lists.ice_heat.now lists.ice.now lists.area.now categories n k) }
     ensures count { length parts.new ≡ length parts.old }
     ensures value { (n k : ℕ) → n < length lists.entry.heat.now → k < categories + 1
-        → warm_at parts.new (n * (categories + 1) + k) ≡ warm_part rates.now (ocean_by lists.entry.heat.now lists.entry.water.now lists.entry.ice_heat.now lists.entry.ice.now lists.entry.area.now categories n k) }
+        → StandsFor rates.now (ocean_by lists.entry.heat.now lists.entry.water.now lists.entry.ice_heat.now lists.entry.ice.now lists.entry.area.now categories n k) (warm_at parts.new (place_in (length lists.entry.heat.now) n k)) }
 {
     for n in 0..lists.heat.len() {
         fill_cell(rates, lists, n, categories, parts);

@@ -1,3 +1,4 @@
 pub mod Apart
 pub mod Out
 pub mod Across
+pub mod Swept

@@ -7,4 +7,4 @@ mod shifts;
 mod slow;
 
 pub use cell::IceCell;
-pub use parts::{Salty, ToIce};
+pub use parts::{NOTHING, Salty, ToIce};

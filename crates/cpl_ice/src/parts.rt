@@ -8,6 +8,13 @@ pub struct Salty {
     pub salt: i64,
 }
 
+/// No water, no heat and no salt.
+pub const NOTHING: Salty = Salty {
+    water: 0,
+    heat: 0,
+    salt: 0,
+};
+
 /// The flight from the ocean to the ice: frazil with its heat, and the skin.
 #[derive(Clone, Copy, Debug, PartialEq, Eq)]
 pub struct ToIce {

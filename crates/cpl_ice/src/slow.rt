@@ -6,7 +6,7 @@ ghost use Rattle.cpl_ice.specs.Cells.{IsAmount, IsIceCell, IsSalty, nothing};
 ghost use Rattle.cpl_ice.specs.Slow.{AreBounded, CanSlow, at, amount, closed_part, frozen, heat_of, is_thick, joined, melted, melted_at, melting, ridged, ridged_at, returned, slowed, water_of};
 
 use crate::cell::IceCell;
-use crate::parts::Salty;
+use crate::parts::{NOTHING, Salty};
 use crate::shifts::{add, amount_at, remove, shift};
 use cpl_fixed::{
     Gain, ICE_HEAT, MELT_HEAT, MOST_AREA, MOST_TOTAL, PARTS, Rates, WATER_HEAT, at_most_share,
@@ -65,11 +65,7 @@ impl IceCell {
         self.ridge(rates);
         let melt = self.melt();
         let skin = self.skin;
-        self.skin = Salty {
-            water: 0,
-            heat: 0,
-            salt: 0,
-        };
+        self.skin = NOTHING;
         Salty {
             water: skin.water + melt.water + runoff.water,
             heat: skin.heat + melt.heat + runoff.heat,

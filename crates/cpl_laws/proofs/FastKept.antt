@@ -36,7 +36,8 @@ use Rattle.cpl_laws.proofs.Flows.{part_is, sun_natural}
 use Rattle.cpl_laws.proofs.FastSums.{given_is_taken}
 use Rattle.cpl_laws.proofs.FastTotals.{some_category}
 use Rattle.cpl_laws.proofs.Held.{flights_to_ice, flights_to_ocean, stored, all_amounts, read_cell}
-use Rattle.cpl_laws.proofs.FastRanges.{cells_natural, one_of_cells, in_category, categories_natural, one_of_categories, stored_total, heat_before_natural, vapour_before_natural, heat_after_natural, vapour_after_natural, sun_most, sun_strength_natural, entered_range, left_range, land_heat_least, land_water_least, skin_heat_least, skin_water_least, category_least, heat_so_far, water_so_far, heat_now, water_now}
+use Rattle.cpl_laws.proofs.Naturals.{are_natural}
+use Rattle.cpl_laws.proofs.FastRanges.{cells_natural, one_of_cells, in_category, categories_natural, one_of_categories, heat_before_natural, vapour_before_natural, heat_after_natural, vapour_after_natural, sun_most, sun_strength_natural, entered_range, left_range, land_heat_least, land_water_least, skin_heat_least, skin_water_least, category_least, heat_so_far, water_so_far, heat_now, water_now}
 
 -- what a step leaves as it is: the ocean, what flies, and the frazil
 abbrev pub other_heat : Grid → Mid → ℤ
@@ -76,29 +77,25 @@ module _ (s : Before) (is : IsNumbered s.grid) (air : IsAirMesh s.grid.air) (mat
 
   pub other_heat_natural : pos 0 ≤ℤ other_heat s.grid s.mid
   other_heat_natural =
-      let a = stored_total s.mid.whole.heat can.mid.whole.stored.heat in
+      let natural = are_natural s.grid s.mid can.mid in
       let b = flights_to_ice s.grid s.mid.whole can.mid.whole.stored Heat in
       let c = flights_to_ocean s.grid s.mid.whole can.mid.whole.stored Heat in
-      let d = stored_total s.mid.frazil_heat can.mid.frazil_heat.stored in
-      omega (arith, ints, a, b, c, d)
+      omega (arith, ints, natural.heat, b, c, natural.frazil_heat)
 
   other_water_natural : pos 0 ≤ℤ other_water s.grid s.mid
   other_water_natural =
-      let a = stored_total s.mid.whole.water can.mid.whole.stored.water in
+      let natural = are_natural s.grid s.mid can.mid in
       let b = flights_to_ice s.grid s.mid.whole can.mid.whole.stored Water in
       let c = flights_to_ocean s.grid s.mid.whole can.mid.whole.stored Water in
-      let d = stored_total s.mid.frazil_water can.mid.frazil_water.stored in
-      let e = stored_total s.mid.whole.ice can.mid.whole.stored.ice in
-      omega (arith, ints, a, b, c, d, e)
+      omega (arith, ints, natural.water, b, c, natural.frazil_water, natural.ice)
 
   -- the ice is part of the other water
   pub ice_and_more : total_of s.mid.whole.ice ≤ℤ other_water s.grid s.mid
   ice_and_more =
-      let a = stored_total s.mid.whole.water can.mid.whole.stored.water in
+      let natural = are_natural s.grid s.mid can.mid in
       let b = flights_to_ice s.grid s.mid.whole can.mid.whole.stored Water in
       let c = flights_to_ocean s.grid s.mid.whole can.mid.whole.stored Water in
-      let d = stored_total s.mid.frazil_water can.mid.frazil_water.stored in
-      omega (arith, ints, a, b, c, d)
+      omega (arith, ints, natural.water, b, c, natural.frazil_water)
 
   -- the totals keep within the most, and so does each part of them
   record HasRoom : Type 0 where
@@ -125,10 +122,7 @@ module _ (s : Before) (is : IsNumbered s.grid) (air : IsAirMesh s.grid.air) (mat
       let sun = sun_strength_natural s is air can in
       let entering = entered_range s is air can in
       let leaving = left_range s is air can in
-      let h0 = stored_total s.mid.whole.air_heat can.mid.whole.stored.air_heat in
-      let h1 = stored_total s.mid.whole.land_heat can.mid.whole.stored.land_heat in
-      let h2 = stored_total s.mid.skin_heat can.mid.skin_heat.stored in
-      let h3 = stored_total s.mid.whole.ice_heat can.mid.whole.stored.ice_heat in
+      let natural = are_natural s.grid s.mid can.mid in
       let so_far = heat_so_far s is air can in
       let water_far = water_so_far s is air can in
       let now = heat_now s is air can in
@@ -143,8 +137,8 @@ module _ (s : Before) (is : IsNumbered s.grid) (air : IsAirMesh s.grid.air) (mat
       let held : (total_of s.mid.whole.air_heat +ℤ total_of s.mid.whole.land_heat +ℤ total_of s.mid.skin_heat +ℤ total_of s.mid.whole.ice_heat +ℤ sun_of_strength (strength s) s.mid.whole.air_sun) ≤ℤ pos MOST_TOTAL = omega (arith, ints, heat, most_heat, others) in
       let held_water : (total_of s.mid.whole.air_vapour +ℤ total_of s.mid.whole.land_water +ℤ total_of s.mid.skin_water) ≤ℤ pos MOST_TOTAL = omega (arith, ints, water, most_water, other_waters) in
       record {
-        sun = omega (arith, ints, held, h0, h1, h2, h3);
-        air_heat = omega (arith, ints, held, sun, h1, h2, h3);
+        sun = omega (arith, ints, held, natural.air_heat, natural.land_heat, natural.skin_heat, natural.ice_heat);
+        air_heat = omega (arith, ints, held, sun, natural.land_heat, natural.skin_heat, natural.ice_heat);
         heat_before = omega (arith, ints, held, sun, so_far);
         vapour_before = omega (arith, ints, held_water, water_far);
         heat = omega (arith, ints, held, now, entering.1, leaving.0, b, c, d);

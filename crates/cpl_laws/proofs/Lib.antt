@@ -12,6 +12,7 @@ pub mod FastSums
 pub mod FastTotals
 pub mod Placed
 pub mod FastRanges
+pub mod Naturals
 pub mod Held
 pub mod FastKept
 pub mod Outlets

@@ -27,7 +27,8 @@ use Rattle.cpl_diffusion.proofs.Sums.{sum_to-same}
 use Rattle.cpl_laws.specs.Once.{IsNumbered}
 use Rattle.cpl_laws.proofs.Sums.{total_range, total_add}
 use Rattle.cpl_laws.proofs.Flows.{stored_natural}
-use Rattle.cpl_laws.proofs.FastRanges.{cells_natural, one_of_cells, stored_total}
+use Rattle.cpl_laws.proofs.FastRanges.{cells_natural, one_of_cells}
+use Rattle.cpl_laws.proofs.Naturals.{are_natural}
 use Rattle.cpl_laws.proofs.Held.{flights_to_ice, stored_amount, all_amounts, read_cell}
 use Rattle.cpl_laws.proofs.IceSteps.{IsBlock}
 use Rattle.cpl_laws.proofs.IceCells.{some, few, sound, block_sum, read_place, ice_block, heat_block, no_parts, no_ice, no_heat, wet_or_dry}
@@ -86,25 +87,13 @@ module _ (grid : Grid) (rates : Rates) (mid : Mid) (is : IsNumbered grid) (can :
       let heat = can.heat in
       let water = can.water in
       let salt = can.salt in
-      let a0 = stored_total mid.whole.air_heat s.air_heat in
-      let a1 = stored_total mid.whole.land_heat s.land_heat in
-      let a2 = stored_total mid.whole.ice_heat s.ice_heat in
-      let a3 = stored_total mid.whole.heat s.heat in
-      let a4 = flights_to_ice grid mid.whole s Heat in
-      let a5 = no_flight grid rates mid is can Heat in
-      let a6 = stored_total mid.skin_heat can.is_mid.skin_heat.stored in
-      let a7 = stored_total mid.frazil_heat can.is_mid.frazil_heat.stored in
-      let b0 = stored_total mid.whole.air_vapour s.air_vapour in
-      let b1 = stored_total mid.whole.land_water s.land_water in
-      let b2 = stored_total mid.whole.ice s.ice in
-      let b3 = stored_total mid.whole.water s.water in
-      let b4 = flights_to_ice grid mid.whole s Water in
-      let b5 = no_flight grid rates mid is can Water in
-      let b6 = stored_total mid.skin_water can.is_mid.skin_water.stored in
-      let b7 = stored_total mid.frazil_water can.is_mid.frazil_water.stored in
-      let c3 = stored_total mid.whole.salt s.salt in
-      let c4 = flights_to_ice grid mid.whole s Salt in
-      let c5 = no_flight grid rates mid is can Salt in
+      let natural = are_natural grid mid can.is_mid in
+      let to_ice_heat = flights_to_ice grid mid.whole s Heat in
+      let to_ocean_heat = no_flight grid rates mid is can Heat in
+      let to_ice_water = flights_to_ice grid mid.whole s Water in
+      let to_ocean_water = no_flight grid rates mid is can Water in
+      let to_ice_salt = flights_to_ice grid mid.whole s Salt in
+      let to_ocean_salt = no_flight grid rates mid is can Salt in
       let land = land_heat_sum grid rates mid is can in
       let land_left = cells_natural (next_land_heat grid rates mid is can) (land_cells grid) (λ n l. next_land_heat_least n) in
       let exchange = exchange_heat grid rates mid is can in
@@ -112,15 +101,15 @@ module _ (grid : Grid) (rates : Rates) (mid : Mid) (is : IsNumbered grid) (can :
       let lands_left = cells_natural (next_land_water grid rates mid is can) (land_cells grid) (λ n l. next_land_water_least n) in
       let exchanges = exchange_water grid rates mid is can in
       record {
-        land_heat = omega (arith, ints, heat, a0, a2, a3, a4, a5, a6, a7);
-        land_water = omega (arith, ints, water, b0, b2, b3, b4, b5, b6, b7);
-        frazil_heat = omega (arith, ints, heat, a0, a1, a2, a3, a4, a5, a6);
-        frazil_water = omega (arith, ints, water, b0, b1, b2, b3, b4, b5, b6);
-        skin_heat = omega (arith, ints, heat, a0, a1, a2, a3, a4, a5, a7);
-        skin_water = omega (arith, ints, water, b0, b1, b2, b3, b4, b5, b7);
-        skin_salt = omega (arith, ints, salt, c3, c4, c5);
-        with_heat = omega (arith, ints, heat, a0, a3, a4, a5, land, land_left, exchange);
-        with_water = omega (arith, ints, water, b0, b3, b4, b5, lands, lands_left, exchanges);
+        land_heat = omega (arith, ints, heat, natural.air_heat, natural.ice_heat, natural.heat, to_ice_heat, to_ocean_heat, natural.skin_heat, natural.frazil_heat);
+        land_water = omega (arith, ints, water, natural.air_vapour, natural.ice, natural.water, to_ice_water, to_ocean_water, natural.skin_water, natural.frazil_water);
+        frazil_heat = omega (arith, ints, heat, natural.air_heat, natural.land_heat, natural.ice_heat, natural.heat, to_ice_heat, to_ocean_heat, natural.skin_heat);
+        frazil_water = omega (arith, ints, water, natural.air_vapour, natural.land_water, natural.ice, natural.water, to_ice_water, to_ocean_water, natural.skin_water);
+        skin_heat = omega (arith, ints, heat, natural.air_heat, natural.land_heat, natural.ice_heat, natural.heat, to_ice_heat, to_ocean_heat, natural.frazil_heat);
+        skin_water = omega (arith, ints, water, natural.air_vapour, natural.land_water, natural.ice, natural.water, to_ice_water, to_ocean_water, natural.frazil_water);
+        skin_salt = omega (arith, ints, salt, natural.salt, to_ice_salt, to_ocean_salt);
+        with_heat = omega (arith, ints, heat, natural.air_heat, natural.heat, to_ice_heat, to_ocean_heat, land, land_left, exchange);
+        with_water = omega (arith, ints, water, natural.air_vapour, natural.water, to_ice_water, to_ocean_water, lands, lands_left, exchanges);
       }
 
   -- THE LAND
@@ -152,10 +141,10 @@ module _ (grid : Grid) (rates : Rates) (mid : Mid) (is : IsNumbered grid) (can :
   -- WHAT ARRIVES, AND WHAT GOES BACK
 
   ice_heat_least : pos 0 ≤ℤ total_of mid.whole.ice_heat
-  ice_heat_least = stored_total mid.whole.ice_heat can.is_mid.whole.stored.ice_heat
+  ice_heat_least = (are_natural grid mid can.is_mid).ice_heat
 
   ice_least : pos 0 ≤ℤ total_of mid.whole.ice
-  ice_least = stored_total mid.whole.ice can.is_mid.whole.stored.ice
+  ice_least = (are_natural grid mid can.is_mid).ice
 
   arrival_is : (n : ℕ) → n < ocean_cells grid → IsGainAmount (arrived grid rates mid.whole n)
   arrival_is n l =
@@ -164,13 +153,10 @@ module _ (grid : Grid) (rates : Rates) (mid : Mid) (is : IsNumbered grid) (can :
       let water = one_of_cells (came_water grid rates mid is can) (ocean_cells grid) (λ m h. (came_least grid rates mid is can m).0) n l in
       let a = ice_heat_least in
       let b = ice_least in
-      let c = stored_total mid.skin_heat can.is_mid.skin_heat.stored in
-      let d = stored_total mid.frazil_heat can.is_mid.frazil_heat.stored in
-      let e = stored_total mid.skin_water can.is_mid.skin_water.stored in
-      let f = stored_total mid.frazil_water can.is_mid.frazil_water.stored in
+      let natural = are_natural grid mid can.is_mid in
       record {
-        heat = ((came_least grid rates mid is can n).1, omega (arith, ints, heat, room.with_heat, a, c, d));
-        water = ((came_least grid rates mid is can n).0, omega (arith, ints, water, room.with_water, b, e, f));
+        heat = ((came_least grid rates mid is can n).1, omega (arith, ints, heat, room.with_heat, a, natural.skin_heat, natural.frazil_heat));
+        water = ((came_least grid rates mid is can n).0, omega (arith, ints, water, room.with_water, b, natural.skin_water, natural.frazil_water));
       }
 
   -- what the ice has after it, and what goes back, keeps within the most

@@ -11,3 +11,4 @@ mod table;
 
 pub use mosaic::{Mesh, Mosaic};
 pub use parts::{CellId, Contact, MosaicError, Side, Span, Tile};
+pub use sides::opposite;

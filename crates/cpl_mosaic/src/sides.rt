@@ -5,8 +5,8 @@ ghost use Rattle.cpl_mosaic.specs.Contacts.{IsTile};
 
 use crate::{CellId, Side, Tile};
 
-// The side across the cell.
-pub(crate) fn opposite(side: Side) -> Side
+/// The side across a cell from this one.
+pub fn opposite(side: Side) -> Side
     ensures { result ≡ opposite side }
 {
     match side {

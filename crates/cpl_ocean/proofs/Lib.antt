@@ -1,5 +1,4 @@
 pub mod Around
-pub mod Swept
 pub mod Sums
 pub mod Raised
 pub mod Driven

@@ -8,7 +8,8 @@ use Rattle.cpl_field.specs.Spots.{FieldNumbers, Spot, CellAt, HoleAt, IsSpot, Is
 use Rattle.cpl_ice.specs.declared.parts.Salty.{Salty}
 use Rattle.cpl_ocean.specs.declared.fields.Fields.{Fields}
 use Rattle.cpl_transport.specs.Salts.{IsSalty, nothing}
-use Rattle.cpl_ocean.specs.Columns.{AreLeft, column_left, mixed_cell}
+use Rattle.cpl_transport.specs.Cells.{mixed_cell}
+use Rattle.cpl_ocean.specs.Columns.{AreLeft, column_left}
 use Rattle.cpl_ocean.specs.Layers.{AreAlike, AreLayersOf, AreOf, IsLayerOf, LayerNumbers, SetsCell, layer_at, no_layer, salty_at}
 use Rattle.cpl_ocean.specs.Mixed.{IsAnyCell, IsMixedAbove, IsMixedBefore, IsMixedBelow, Mixes}
 use Rattle.cpl_ocean.proofs.Around.{spot_same}

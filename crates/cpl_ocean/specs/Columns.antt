@@ -5,18 +5,10 @@ use Rattle.cpl_mosaic.specs.declared.parts.Side.{Side}
 use Rattle.cpl_field.specs.Spots.{FieldNumbers, Spot, CellAt, HoleAt, IsSpot, IsSameShape, number_at}
 use Rattle.cpl_ice.specs.declared.parts.Salty.{Salty}
 use Rattle.cpl_transport.specs.Heights.{height_of}
-use Rattle.cpl_transport.specs.Mixing.{exchanged, mixed, passed, sum_of}
+use Rattle.cpl_transport.specs.Mixing.{sum_of}
 use Rattle.cpl_transport.specs.Salts.{IsSalty, nothing}
 use Rattle.cpl_ocean.specs.Layers.{LayerNumbers, layer_at}
 use Rattle.cpl_ocean.specs.Flows.{is_wet}
-
--- what a layer and the one below it exchange
-abbrev pub exchanged_cells : (mix : ℕ) → (upper lower : Salty) → Salty
-exchanged_cells mix upper lower = record {
-  water = exchanged mix upper.water lower.water;
-  heat = exchanged mix upper.heat lower.heat;
-  salt = exchanged mix upper.salt lower.salt;
-}
 
 -- the water of a column
 abbrev pub column_water : List LayerNumbers → Spot → ℤ
@@ -72,19 +64,3 @@ column_left layers place l = slice_index_or (layer_at layers l).left place nothi
 -- no amount that it leaves there is negative or above the greatest total
 abbrev pub AreLeft : List LayerNumbers → (place : ℕ) → Type 0
 AreLeft layers place = (l : ℕ) → l < length layers → IsSalty (column_left layers place l)
-
--- what passes down out of a layer of a column, of water, heat and salt
-abbrev pub passed_cell : (mix layers : ℕ) → (column : ℕ → Salty) → ℕ → Salty
-passed_cell mix layers column l = record {
-  water = passed mix layers (λ k. (column k).water) l;
-  heat = passed mix layers (λ k. (column k).heat) l;
-  salt = passed mix layers (λ k. (column k).salt) l;
-}
-
--- a layer of a column after the vertical exchange
-abbrev pub mixed_cell : (mix layers : ℕ) → (column : ℕ → Salty) → ℕ → Salty
-mixed_cell mix layers column l = record {
-  water = mixed mix layers (λ k. (column k).water) l;
-  heat = mixed mix layers (λ k. (column k).heat) l;
-  salt = mixed mix layers (λ k. (column k).salt) l;
-}

@@ -1,5 +1,5 @@
 -- What moves through the sides of a piece's cells in a step of the ocean.
-use Rattle.std.specs.Prelude.{ℕ, ◌^◌, nat_lt, Bool, ◌&&◌, ℤ, pos, ◌-ℤ◌, ◌≤ℤ◌, if◌then◌else◌}
+use Rattle.std.specs.Prelude.{ℕ, nat_lt, Bool, ◌&&◌, ℤ, pos, if◌then◌else◌}
 use Rattle.cpl_fixed.specs.Amounts.{amount}
 use Rattle.cpl_fixed.specs.Ranges.{IsFromℤ}
 use Rattle.cpl_fixed.specs.declared.limits.TheConstants.{MOST_AREA}
@@ -76,12 +76,3 @@ AreHeights heights = (spot : Spot) → IsSpot heights spot → IsHeight (number_
 -- no amount of a cell or a hole is negative or above the greatest total
 abbrev pub AreSalty : (area : FieldNumbers) → Fields → Type 0
 AreSalty area fields = (spot : Spot) → IsSpot area spot → IsSalty (salty_at fields spot)
-
--- no more than four small numbers together
-abbrev pub IsFew : ℤ → Type 0
-IsFew x = ((pos 0 -ℤ pos (2 ^ 62)) ≤ℤ x) × (x ≤ℤ pos (2 ^ 62))
-
-pub record AreFew (it : Salty) : Type 0 where
-  pub water : IsFew it.water
-  pub heat : IsFew it.heat
-  pub salt : IsFew it.salt

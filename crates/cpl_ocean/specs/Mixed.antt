@@ -3,7 +3,8 @@ use Rattle.std.specs.Prelude.{◌≡◌, ℕ, ◌+◌, ◌*◌, ◌<◌, List, l
 use Rattle.cpl_mosaic.specs.declared.parts.Side.{Side}
 use Rattle.cpl_field.specs.Spots.{FieldNumbers, CellAt, HoleAt, IsSpot}
 use Rattle.cpl_ocean.specs.Layers.{AreLayersOf, LayerNumbers, layer_at, salty_at}
-use Rattle.cpl_ocean.specs.Columns.{AreLeft, column_left, mixed_cell}
+use Rattle.cpl_transport.specs.Cells.{mixed_cell}
+use Rattle.cpl_ocean.specs.Columns.{AreLeft, column_left}
 
 -- the cells that are meant hold what the vertical exchange makes of what the transport left, and the others what they held. The
 -- holes and the faces keep their numbers

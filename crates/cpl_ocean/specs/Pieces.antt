@@ -7,7 +7,8 @@ use Rattle.cpl_field.specs.Spots.{FieldNumbers, CellAt, HoleAt, IsSpot, IsSameSh
 use Rattle.cpl_ice.specs.declared.parts.Salty.{Salty}
 use Rattle.cpl_ocean.specs.declared.basin.Basin.{Basin}
 use Rattle.cpl_ocean.specs.declared.fields.Fields.{Fields}
-use Rattle.cpl_ocean.specs.Columns.{column_left, height_at, mixed_cell}
+use Rattle.cpl_transport.specs.Cells.{mixed_cell}
+use Rattle.cpl_ocean.specs.Columns.{column_left, height_at}
 use Rattle.cpl_ocean.specs.Flows.{AreSalty, next_number, transported}
 use Rattle.cpl_ocean.specs.Layers.{AreLayersOf, IsEmptyLayer, LayerNumbers, SetsCell, layer_at, salty_at}
 use Rattle.cpl_ocean.specs.Sweeps.{Computes, IsBasin}

@@ -3,30 +3,16 @@ ghost use Rattle.std.specs.Prelude.{◌≡◌, ◌≤◌, ◌<◌, nat_lt};
 ghost use Rattle.cpl_field.specs.Crossings.{IsSideOf};
 ghost use Rattle.cpl_field.specs.Spots.{CellAt, IsSpot, IsSameShape, number_at, out_from};
 ghost use Rattle.cpl_fixed.specs.Amounts.{amount};
-ghost use Rattle.cpl_mosaic.specs.Sides.{opposite};
 ghost use Rattle.cpl_transport.specs.Heights.{IsFaceNumber, IsHeight};
 ghost use Rattle.cpl_transport.specs.Salts.{AreSmall, IsSalty};
 ghost use Rattle.cpl_ocean.specs.Layers.{AreOf, salty_at};
 ghost use Rattle.cpl_ocean.specs.Flows.{AreHeights, AreSalty, behind, beyond, flow_out, is_open, next_number, transported};
 
-use crate::cells::{NOTHING, left, moved};
 use crate::fields::Fields;
 use cpl_field::{Faces, Field};
-use cpl_ice::Salty;
-use cpl_mosaic::Side;
-use cpl_transport::{next_face, through};
-
-// The side across a cell.
-fn opposite(side: Side) -> Side
-    ensures { result ≡ opposite side }
-{
-    match side {
-        Side::W => Side::E,
-        Side::E => Side::W,
-        Side::S => Side::N,
-        Side::N => Side::S,
-    }
-}
+use cpl_ice::{NOTHING, Salty};
+use cpl_mosaic::{Side, opposite};
+use cpl_transport::{next_face, sum_of_sides, through, without};
 
 // Whether there is a column over this area.
 #[inline]
@@ -159,5 +145,5 @@ pub(crate) fn transported(
     let east = flow_out(area, heights, slope, fields, i, j, Side::E);
     let south = flow_out(area, heights, slope, fields, i, j, Side::S);
     let north = flow_out(area, heights, slope, fields, i, j, Side::N);
-    left(fields.get(i, j), moved(west, east, south, north))
+    without(fields.get(i, j), sum_of_sides(west, east, south, north))
 }

@@ -11,13 +11,12 @@ ghost use Rattle.cpl_ocean.specs.Pieces.{ChangesField, ChangesSide, LoadsCells, 
 ghost use Rattle.cpl_ocean.specs.Sweeps.{Computes, IsBasin, IsInner, IsRim, left_in};
 
 use crate::basin::Basin;
-use crate::cells::NOTHING;
 use crate::fields::Fields;
 use crate::loads::{load_cells, load_holes};
 use crate::numbers::drive;
 use crate::sweep::{sweep_inner, sweep_rim};
 use cpl_field::{Faces, Field};
-use cpl_ice::Salty;
+use cpl_ice::{NOTHING, Salty};
 use cpl_layout::Piece;
 use cpl_mosaic::Side;
 use std::alloc::{AllocError, Global};

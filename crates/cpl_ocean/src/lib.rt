@@ -3,7 +3,6 @@
 #![tactic(auto)]
 
 mod basin;
-mod cells;
 mod fields;
 mod flows;
 mod heights;

@@ -1,15 +1,16 @@
 // Vertical exchange.
 ghost use Rattle.std.specs.Prelude.{◌≡◌, ◌*◌, ◌<◌, ◌≤◌, ℕ, length};
 ghost use Rattle.cpl_field.specs.Spots.{CellAt, IsShape, IsSpot};
+ghost use Rattle.cpl_transport.specs.Cells.{mixed_cell, passed_cell};
 ghost use Rattle.cpl_transport.specs.Salts.{AreSmall, IsSalty};
 ghost use Rattle.cpl_ocean.specs.Layers.{AreLayersOf, layer_at};
-ghost use Rattle.cpl_ocean.specs.Columns.{AreLeft, column_left, mixed_cell, passed_cell};
+ghost use Rattle.cpl_ocean.specs.Columns.{AreLeft, column_left};
 ghost use Rattle.cpl_ocean.specs.Mixed.{IsAllLeft, IsAnyCell, IsMixedBefore, IsMixedBelow, Mixes};
 
-use crate::cells::{NOTHING, after_exchange, exchange, left};
 use crate::layer::Layer;
 use cpl_field::Field;
-use cpl_ice::Salty;
+use cpl_ice::{NOTHING, Salty};
+use cpl_transport::{after_exchange, exchanged_cells, without};
 
 // What passes down out of a cell: nothing out of the last layer.
 fn passed(mix: u32, layers: &[Layer], l: usize, place: usize) -> Salty
@@ -21,7 +22,7 @@ fn passed(mix: u32, layers: &[Layer], l: usize, place: usize) -> Salty
     ensures small { AreSmall result }
 {
     if l + 1 < layers.len() {
-        exchange(mix, layers[l].left_at(place), layers[l + 1].left_at(place))
+        exchanged_cells(mix, layers[l].left_at(place), layers[l + 1].left_at(place))
     } else {
         NOTHING
     }
@@ -38,7 +39,7 @@ fn mixed_cell(mix: u32, layers: &[Layer], l: usize, place: usize) -> Salty
     let here = layers[l].left_at(place);
     let down = passed(mix, layers, l, place);
     if l == 0 {
-        left(here, down)
+        without(here, down)
     } else {
         after_exchange(here, passed(mix, layers, l - 1, place), down)
     }

@@ -14,7 +14,6 @@ ghost use Rattle.cpl_ocean.specs.Sweeps.{IsInner, IsRim};
 ghost use Rattle.cpl_ocean.specs.Pieces.{ChangesCell, ChangesField, ChangesLayer, ChangesSide, Finishes, HasAmounts, IsEmptyOcean, LoadsCells, LoadsHoles, Transports, field_in, fields_at};
 
 use crate::basin::Basin;
-use crate::cells::both;
 use crate::heights::{raise_all, raise_cells};
 use crate::layer::Layer;
 use crate::mixing::store;
@@ -24,7 +23,7 @@ use cpl_fixed::Rates;
 use cpl_ice::{Salty, ToIce};
 use cpl_layout::Piece;
 use cpl_mosaic::Side;
-use cpl_transport::cut;
+use cpl_transport::{cut, joined};
 use std::alloc::{AllocError, Global};
 use std::marker::Model;
 
@@ -194,7 +193,7 @@ impl OceanPiece {
         ensures { ChangesLayer 0 (ChangesCell i j (joined (salty_at (fields_at self.old 0) (CellAt i j)) flight)) self.old self.new }
     {
         let here = self.layers[0].get(i, j);
-        self.layers[0].set(i, j, both(here, flight));
+        self.layers[0].set(i, j, joined(here, flight));
     }
 
     /// Cuts off what leaves the top layer for the ice at the end of a coupling step.

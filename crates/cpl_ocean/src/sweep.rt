@@ -1,8 +1,9 @@
 // What the transport leaves in the cells of one layer of a piece.
 ghost use Rattle.std.specs.Prelude.{◌≡◌, ◌*◌, ◌<◌, ◌≤◌, length};
+ghost use Rattle.cpl_field.specs.Sweeps.{IsInSpan, IsRimOfRow};
 ghost use Rattle.cpl_ocean.specs.Layers.{AreOf};
 ghost use Rattle.cpl_ocean.specs.Flows.{AreSalty};
-ghost use Rattle.cpl_ocean.specs.Sweeps.{Computes, IsBasin, IsInner, IsInSpan, IsRim, IsRimOfRow, left_in};
+ghost use Rattle.cpl_ocean.specs.Sweeps.{Computes, IsBasin, IsInner, IsRim, left_in};
 
 use crate::basin::Basin;
 use crate::fields::Fields;
@@ -34,7 +35,7 @@ fn rim_row(basin: &Basin, slope: u32, fields: &Fields, j: u32, left: &mut [Salty
     requires fields { AreOf basin.now.area fields.now }
     requires salty { AreSalty basin.now.area fields.now }
     requires left { length left.old ≡ basin.now.nx * basin.now.ny }
-    ensures { Computes basin.now.area (left_in basin.now slope fields.now) (IsRimOfRow basin.now.area j) left.old left.new }
+    ensures { Computes basin.now.area (left_in basin.now slope fields.now) (IsRimOfRow 2 basin.now.area j) left.old left.new }
 {
     let nx = basin.nx;
     if nx < 5 || j < 2 || j + 2 >= basin.ny {

@@ -1,27 +1,26 @@
 -- A cell without an area stays empty.
-use Rattle.std.proofs.Common.{◌≡◌, ◌∙◌, refl, sym, ap, subst, Bool, true, false, ◌&&◌, cond, ℕ, zero, suc, ◌+◌, ◌-◌, ◌*◌, ◌/◌, ◌^◌, ◌<◌, ◌≤◌, arith, inl, inr, ◌⊎◌, List, Option, Some, None, length}
-use Rattle.std.specs.Prelude.{ℤ, pos, neg_ℤ, ◌+ℤ◌, ◌-ℤ◌, nat_lt, if◌then◌else◌}
+use Rattle.std.proofs.Common.{◌≡◌, ◌∙◌, refl, ap, Bool, true, false, ◌&&◌, ℕ, zero, suc, ◌+◌, ◌*◌, ◌^◌, ◌<◌, ◌≤◌, arith, inl, inr, List, Option, Some, None, length}
+use Rattle.std.specs.Prelude.{ℤ, pos, neg_ℤ, ◌+ℤ◌, nat_lt, if◌then◌else◌}
 use Rattle.std.specs.List.{position}
 use Rattle.std.proofs.Math.Nat.{zero-div}
 use Rattle.std.proofs.lemmas.Int.{ints}
 use Rattle.std.proofs.lemmas.Bool.{and_parts, eqb-true, cases_Bool, ltb-true}
 use Rattle.std.proofs.lemmas.List.Quantifiers.{position-Some}
-use Rattle.cpl_fixed.specs.Amounts.{amount, at}
+use Rattle.cpl_fixed.specs.Amounts.{at}
 use Rattle.cpl_fixed.specs.declared.rates.Rates.{Rates}
 use Rattle.cpl_mosaic.specs.declared.mosaic.Mesh.{Mesh}
 use Rattle.cpl_mosaic.specs.declared.parts.Side.{Side}
 use Rattle.cpl_mosaic.specs.declared.parts.Side.TheVariants.{W, E, S, N}
 use Rattle.cpl_mosaic.specs.Cells.{cell_of}
 use Rattle.cpl_mosaic.specs.Mates.{mate_of}
-use Rattle.cpl_faces.specs.declared.face.Face.{Face}
 use Rattle.cpl_faces.specs.Faces.{faces_of}
 use Rattle.cpl_ice.specs.declared.parts.Salty.{Salty}
 use Rattle.cpl_transport.specs.Mixing.{part, exchanged, passed, mixed}
 use Rattle.cpl_transport.specs.Cuts.{uncut, cut_of}
 use Rattle.cpl_transport.specs.Salts.{joined, nothing, without}
 use Rattle.cpl_restart.specs.Diffusion.{cell_count}
-use Rattle.cpl_restart.specs.Transport.{Sea, cell_in, face_at, flow_through, flow_to, is_first, is_open, is_second, is_wet, moved_out, next_number, no_face, outward, seen, stepped, transported}
-use Rattle.cpl_restart.specs.Cut.{with_flight, cut_at, after_cut, to_ocean_at, to_ice_numbers}
+use Rattle.cpl_restart.specs.Transport.{Sea, cell_in, face_at, flow_through, flow_to, is_first, is_second, is_wet, moved_out, next_number, no_face, outward, seen, stepped, transported}
+use Rattle.cpl_restart.specs.Cut.{with_flight, cut_at, after_cut, to_ice_numbers}
 use Rattle.cpl_sea.specs.Seas.{IsSea}
 use Rattle.cpl_sea.proofs.Flows.{flow_none, wall_keeps}
 use Rattle.cpl_sea.proofs.Rows.{layered_at}

@@ -21,7 +21,8 @@ use Rattle.cpl_restart.specs.Transport.{Sea, cell_in, face_at, face_count, heigh
 use Rattle.cpl_sea.specs.declared.links.Link.{Link}
 use Rattle.cpl_sea.specs.declared.links.CellFaces.{CellFaces}
 use Rattle.cpl_sea.specs.Links.{all_cell_faces, cell_faces, face_flow, link_flow, link_of, links_of}
-use Rattle.cpl_sea.specs.Passes.{cell_faces_at, column_at, flow_in, height_over, layer_flows, link_at, mixed_cell, number_after, out_of, salty_at}
+use Rattle.cpl_transport.specs.Cells.{mixed_cell}
+use Rattle.cpl_sea.specs.Passes.{cell_faces_at, column_at, flow_in, height_over, layer_flows, link_at, number_after, out_of, salty_at}
 use Rattle.cpl_sea.specs.Seas.{IsOcean, IsSea}
 use Rattle.cpl_sea.proofs.Flows.{flow_seen}
 use Rattle.cpl_sea.proofs.Kept.{of_layer, rest_amount}

@@ -1,25 +1,23 @@
 -- What the ocean adds when a coupling step begins, and what it cuts off when it ends: totals, and that it stays lawful.
-use Rattle.std.proofs.Common.{◌≡◌, ◌∙◌, refl, sym, ap, subst, ℕ, zero, suc, ◌+◌, ◌-◌, ◌*◌, ◌<◌, ◌≤◌, arith, inl, inr, List, [], ◌∷◌, ◌++◌, map, drop, length, get_or}
-use Rattle.std.specs.Prelude.{ℤ, pos, ◌+ℤ◌, ◌-ℤ◌, ◌≤ℤ◌, All}
+use Rattle.std.proofs.Common.{◌≡◌, ◌∙◌, refl, sym, ap, subst, ℕ, zero, suc, ◌+◌, ◌-◌, ◌*◌, ◌<◌, ◌≤◌, arith, List, ◌++◌, map, drop, length, get_or}
+use Rattle.std.specs.Prelude.{ℤ, pos, ◌+ℤ◌, ◌≤ℤ◌}
 use Rattle.std.specs.List.{flat_map, range_with_len}
 use Rattle.std.proofs.lemmas.Int.{ints}
 use Rattle.std.proofs.Math.Nat.{mul-le-mul_left}
 use Rattle.std.proofs.lemmas.List.{length-append, length-drop, get_or_append_left, get_or-append-add, get_or-append_right, get_or-drop}
 use Rattle.std.proofs.lemmas.List.Elements.{All-append, All-drop, All-map}
 use Rattle.std.proofs.lemmas.List.FromFn.{length-map-range_with_len, get_or-map-range_with_len, get_or-range_with_len, length-range_with_len}
-use Rattle.cpl_fixed.specs.Amounts.{IsAmount, at}
+use Rattle.cpl_fixed.specs.Amounts.{at}
 use Rattle.cpl_fixed.specs.Totals.{total_of}
 use Rattle.cpl_fixed.specs.declared.limits.TheConstants.{MOST_TOTAL}
 use Rattle.cpl_mosaic.specs.declared.mosaic.Mesh.{Mesh}
-use Rattle.cpl_ice.specs.declared.parts.Salty.{Salty}
-use Rattle.cpl_ice.specs.declared.parts.ToIce.{ToIce}
-use Rattle.cpl_transport.specs.Cuts.{cut_of, uncut}
-use Rattle.cpl_transport.specs.Salts.{IsSalty, joined}
+use Rattle.cpl_transport.specs.Cuts.{uncut}
+use Rattle.cpl_transport.specs.Salts.{IsSalty}
 use Rattle.cpl_transport.proofs.Frazil.{cut_flight, uncut_salty, cut_water, cut_heat, cut_salt}
 use Rattle.cpl_restart.specs.Diffusion.{AreAmounts, cell_count}
 use Rattle.cpl_restart.specs.Transport.{Sea, cell_in}
-use Rattle.cpl_restart.specs.Cut.{with_top, with_flight, cut_at, cut_off, after_cut, to_ocean_at, to_ice_numbers}
-use Rattle.cpl_diffusion.proofs.Sums.{sum_to, sum_to-same, sum_to-add, sum_to-least, sum_to-split, total_of-sum_to, total_range}
+use Rattle.cpl_restart.specs.Cut.{with_flight, cut_at, cut_off, after_cut, to_ice_numbers}
+use Rattle.cpl_diffusion.proofs.Sums.{sum_to, sum_to-same, sum_to-add, sum_to-least, sum_to-split, total_of-sum_to}
 use Rattle.cpl_diffusion.proofs.Conserved.{amount_at}
 use Rattle.cpl_sea.specs.Seas.{IsSea}
 

@@ -1,10 +1,10 @@
 -- The passes of a step over the layers.
-use Rattle.std.specs.Prelude.{◌≡◌, false, ℕ, ◌+◌, ◌*◌, ◌^◌, ◌<◌, ◌≤◌, ◌-ℤ◌, ◌≤ℤ◌, List, length, ℤ, pos, nat_lt, slice_index_or, if◌then◌else◌}
+use Rattle.std.specs.Prelude.{◌≡◌, false, ℕ, ◌+◌, ◌*◌, ◌<◌, ◌≤◌, List, length, ℤ, pos, nat_lt, slice_index_or, if◌then◌else◌}
 use Rattle.cpl_fixed.specs.Amounts.{amount, at}
 use Rattle.cpl_ice.specs.declared.parts.Salty.{Salty}
 use Rattle.cpl_transport.specs.Heights.{height_of, next_face}
 use Rattle.cpl_fixed.specs.declared.limits.TheConstants.{MOST_CELLS, MOST_LAYERS}
-use Rattle.cpl_transport.specs.Mixing.{exchanged, mixed, passed, sum_of}
+use Rattle.cpl_transport.specs.Mixing.{sum_of}
 use Rattle.cpl_transport.specs.Moves.{through}
 use Rattle.cpl_transport.specs.Salts.{joined, nothing}
 use Rattle.cpl_sea.specs.Links.{seen_flow}
@@ -51,14 +51,6 @@ abbrev pub out_of : (flows : ℕ → Salty) → CellFaces → Salty
 out_of flows faces =
     joined (joined (seen_flow flows faces.west) (seen_flow flows faces.east)) (joined (seen_flow flows faces.south) (seen_flow flows faces.north))
 
--- a cell after the vertical exchange
-abbrev pub mixed_cell : (mix layers : ℕ) → (column : ℕ → Salty) → ℕ → Salty
-mixed_cell mix layers column layer = record {
-  water = mixed mix layers (λ l. (column l).water) layer;
-  heat = mixed mix layers (λ l. (column l).heat) layer;
-  salt = mixed mix layers (λ l. (column l).salt) layer;
-}
-
 -- a side's face is among so many
 abbrev pub IsSideWithin : (count : ℕ) → SideFace → Type 0
 IsSideWithin count Alone = Unit {0}
@@ -71,34 +63,9 @@ pub record AreSidesWithin (count : ℕ) (faces : CellFaces) : Type 0 where
   pub south : IsSideWithin count faces.south
   pub north : IsSideWithin count faces.north
 
--- no more than four small numbers together
-abbrev pub IsFew : ℤ → Type 0
-IsFew x = ((pos 0 -ℤ pos (2 ^ 62)) ≤ℤ x) × (x ≤ℤ pos (2 ^ 62))
-
-pub record AreFew (it : Salty) : Type 0 where
-  pub water : IsFew it.water
-  pub heat : IsFew it.heat
-  pub salt : IsFew it.salt
-
--- what passes down out of a layer, of water, heat and salt
-abbrev pub passed_cell : (mix layers : ℕ) → (column : ℕ → Salty) → ℕ → Salty
-passed_cell mix layers column layer = record {
-  water = passed mix layers (λ l. (column l).water) layer;
-  heat = passed mix layers (λ l. (column l).heat) layer;
-  salt = passed mix layers (λ l. (column l).salt) layer;
-}
-
 -- the column at n of cells that stand layer by layer
 abbrev pub column_at : (count : ℕ) → List Salty → (n layer : ℕ) → Salty
 column_at count cells n layer = salty_at cells (layer * count + n)
-
--- what a layer and the one below it exchange
-abbrev pub exchanged_cells : (mix : ℕ) → (upper lower : Salty) → Salty
-exchanged_cells mix upper lower = record {
-  water = exchanged mix upper.water lower.water;
-  heat = exchanged mix upper.heat lower.heat;
-  salt = exchanged mix upper.salt lower.salt;
-}
 
 -- 1 to 8 layers of up to 2^18 cells each, and as many cells
 pub record AreColumns (layers count whole : ℕ) : Type 0 where

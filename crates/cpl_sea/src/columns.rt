@@ -2,17 +2,17 @@
 ghost use Rattle.std.specs.Prelude.{◌≡◌, ◌+◌, ◌*◌, ◌<◌, ◌≤◌, ℕ, length, All};
 ghost use Rattle.cpl_fixed.specs.Amounts.{IsAmount, at};
 ghost use Rattle.cpl_ice.specs.declared.parts.Salty.{Salty};
+ghost use Rattle.cpl_transport.specs.Cells.{mixed_cell, passed_cell};
 ghost use Rattle.cpl_transport.specs.Heights.{IsHeight};
 ghost use Rattle.cpl_transport.specs.Mixing.{sum_of};
-ghost use Rattle.cpl_transport.specs.Salts.{AreSmall, IsSalty, joined, without};
+ghost use Rattle.cpl_transport.specs.Salts.{AreSmall, IsSalty};
 ghost use Rattle.cpl_restart.specs.Diffusion.{AreAmounts, cell_count};
 ghost use Rattle.cpl_xgrid.specs.Lists.{IsArea, IsMesh};
-ghost use Rattle.cpl_sea.specs.Passes.{AreColumns, column_at, exchanged_cells, height_over, mixed_cell, passed_cell, salty_at};
+ghost use Rattle.cpl_sea.specs.Passes.{AreColumns, column_at, height_over, salty_at};
 
-use crate::moving::NOTHING;
-use cpl_ice::Salty;
+use cpl_ice::{NOTHING, Salty};
 use cpl_mosaic::Mesh;
-use cpl_transport::{exchanged, height};
+use cpl_transport::{after_exchange, exchanged_cells, height, without};
 
 // The cells of all layers, from the three lists of a state.
 pub(crate) fn load(water: &[i64], heat: &[i64], salt: &[i64], cells: &mut [Salty])
@@ -83,22 +83,6 @@ pub(crate) fn raise(mesh: &Mesh, water: &[i64], layers: usize, heights: &mut [i6
     }
 }
 
-// What passes from a cell to the one below it.
-#[inline]
-fn exchange(mix: u32, upper: Salty, lower: Salty) -> Salty
-    requires mix { (2 ≤ mix) × (mix ≤ 40) }
-    requires upper { IsSalty upper }
-    requires lower { IsSalty lower }
-    ensures value { result ≡ exchanged_cells mix upper lower }
-    ensures small { AreSmall result }
-{
-    Salty {
-        water: exchanged(mix, upper.water, lower.water),
-        heat: exchanged(mix, upper.heat, lower.heat),
-        salt: exchanged(mix, upper.salt, lower.salt),
-    }
-}
-
 // What passes down out of a cell: nothing out of the last layer.
 #[inline]
 fn passed(mix: u32, layers: usize, cells: &[Salty], count: usize, layer: usize, n: usize) -> Salty
@@ -112,38 +96,9 @@ fn passed(mix: u32, layers: usize, cells: &[Salty], count: usize, layer: usize, 
 {
     let place = layer * count + n;
     if layer + 1 < layers {
-        exchange(mix, cells[place], cells[place + count])
+        exchanged_cells(mix, cells[place], cells[place + count])
     } else {
         NOTHING
-    }
-}
-
-// A layer without what passes down out of it.
-#[inline]
-fn after_passing(here: Salty, down: Salty) -> Salty
-    requires here { IsSalty here }
-    requires down { AreSmall down }
-    ensures { result ≡ without here down }
-{
-    Salty {
-        water: here.water - down.water,
-        heat: here.heat - down.heat,
-        salt: here.salt - down.salt,
-    }
-}
-
-// The same with what comes from above.
-#[inline]
-fn after_exchange(here: Salty, from_above: Salty, down: Salty) -> Salty
-    requires here { IsSalty here }
-    requires from_above { AreSmall from_above }
-    requires down { AreSmall down }
-    ensures { result ≡ without (joined here from_above) down }
-{
-    Salty {
-        water: here.water + from_above.water - down.water,
-        heat: here.heat + from_above.heat - down.heat,
-        salt: here.salt + from_above.salt - down.salt,
     }
 }
 
@@ -167,7 +122,7 @@ fn mixed_cell(
     let here = cells[layer * count + n];
     let down = passed(mix, layers, cells, count, layer, n);
     if layer == 0 {
-        after_passing(here, down)
+        without(here, down)
     } else {
         let from_above = passed(mix, layers, cells, count, layer - 1, n);
         after_exchange(here, from_above, down)

@@ -1,6 +1,5 @@
 // What the steps of an ocean look up of its mosaic, made once.
 ghost use Rattle.std.specs.Prelude.{◌≡◌, ◌<◌, IfOk, length};
-ghost use Rattle.cpl_mosaic.specs.Sides.{opposite};
 ghost use Rattle.cpl_faces.specs.Faces.{faces_of};
 ghost use Rattle.cpl_restart.specs.Diffusion.{cell_count};
 ghost use Rattle.cpl_restart.specs.Transport.{behind, is_open};
@@ -9,20 +8,8 @@ ghost use Rattle.cpl_sea.specs.Seas.{IsOcean};
 
 use crate::links::Link;
 use cpl_faces::Face;
-use cpl_mosaic::{Mesh, Side};
+use cpl_mosaic::{Mesh, Side, opposite};
 use std::alloc::{AllocError, Global};
-
-// The side opposite.
-fn opposite(side: Side) -> Side
-    ensures { result ≡ opposite side }
-{
-    match side {
-        Side::W => Side::E,
-        Side::E => Side::W,
-        Side::S => Side::N,
-        Side::N => Side::S,
-    }
-}
 
 // Whether two cells are both wet.
 fn is_open(mesh: &Mesh, n: u32, other: u32) -> bool

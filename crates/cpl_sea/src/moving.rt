@@ -1,21 +1,16 @@
 // What moves through the faces of a layer, and what it leaves in the cells.
-ghost use Rattle.std.specs.Prelude.{◌≡◌, ◌+◌, ◌*◌, ◌<◌, ◌≤◌, ◌-◌, ◌^◌, ◌+ℤ◌, ℕ, length, All};
+ghost use Rattle.std.specs.Prelude.{◌≡◌, ◌+◌, ◌*◌, ◌<◌, ◌≤◌, ◌-◌, ◌^◌, ℕ, length, All};
 ghost use Rattle.cpl_fixed.specs.Amounts.{at};
 ghost use Rattle.cpl_ice.specs.declared.parts.Salty.{Salty};
+ghost use Rattle.cpl_transport.specs.Cells.{AreFew};
 ghost use Rattle.cpl_transport.specs.Heights.{IsFaceNumber, IsHeight};
-ghost use Rattle.cpl_transport.specs.Salts.{AreSmall, IsSalty, IsSmall, without};
+ghost use Rattle.cpl_transport.specs.Salts.{AreSmall, IsSalty, without};
 ghost use Rattle.cpl_sea.specs.Links.{seen_flow};
-ghost use Rattle.cpl_sea.specs.Passes.{AreColumns, AreFew, AreSidesWithin, IsFew, IsLinkWithin, IsSideWithin, layer_flows, cell_faces_at, flow_in, link_at, number_after, out_of, salty_at};
+ghost use Rattle.cpl_sea.specs.Passes.{AreColumns, AreSidesWithin, IsLinkWithin, IsSideWithin, layer_flows, cell_faces_at, flow_in, link_at, number_after, out_of, salty_at};
 
 use crate::links::{CellFaces, Link, SideFace};
-use cpl_ice::Salty;
-use cpl_transport::{next_face, through, turned};
-
-pub(crate) const NOTHING: Salty = Salty {
-    water: 0,
-    heat: 0,
-    salt: 0,
-};
+use cpl_ice::{NOTHING, Salty};
+use cpl_transport::{next_face, sum_of_sides, through, turned, without};
 
 // The number of a face after the step.
 #[inline]
@@ -116,19 +111,6 @@ fn seen(flows: &[Salty], face: SideFace) -> Salty
     }
 }
 
-// Four small numbers together.
-#[inline]
-fn sum(west: i64, east: i64, south: i64, north: i64) -> i64
-    requires west { IsSmall west }
-    requires east { IsSmall east }
-    requires south { IsSmall south }
-    requires north { IsSmall north }
-    ensures value { result ≡ (west +ℤ east) +ℤ (south +ℤ north) }
-    ensures few { IsFew result }
-{
-    west + east + (south + north)
-}
-
 // What moves out of a cell through its four sides.
 #[inline]
 fn moved_out(flows: &[Salty], faces: CellFaces) -> Salty
@@ -141,25 +123,7 @@ fn moved_out(flows: &[Salty], faces: CellFaces) -> Salty
     let east = seen(flows, faces.east);
     let south = seen(flows, faces.south);
     let north = seen(flows, faces.north);
-    Salty {
-        water: sum(west.water, east.water, south.water, north.water),
-        heat: sum(west.heat, east.heat, south.heat, north.heat),
-        salt: sum(west.salt, east.salt, south.salt, north.salt),
-    }
-}
-
-// A cell without what moves out of it.
-#[inline]
-fn left(here: Salty, out: Salty) -> Salty
-    requires here { IsSalty here }
-    requires out { AreFew out }
-    ensures { result ≡ without here out }
-{
-    Salty {
-        water: here.water - out.water,
-        heat: here.heat - out.heat,
-        salt: here.salt - out.salt,
-    }
+    sum_of_sides(west, east, south, north)
 }
 
 // What the transport leaves in the cells of a layer, which begin at this place of all layers'.
@@ -182,7 +146,7 @@ pub(crate) fn leave_layer(
 {
     for n in 0..faces.len() {
         let out = moved_out(flows, faces[n]);
-        rest[begin + n] = left(cells[begin + n], out);
+        rest[begin + n] = without(cells[begin + n], out);
     }
 }
 

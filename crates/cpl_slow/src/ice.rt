@@ -13,7 +13,7 @@ ghost use Rattle.cpl_slow.specs.Ice.{AllCanSlow, AreIceLists, AreSkins, AreSlowe
 
 use crate::blocks::{filled_up, has_none, put};
 use cpl_fixed::{Gain, PARTS, Rates};
-use cpl_ice::{IceCell, Salty};
+use cpl_ice::{IceCell, NOTHING, Salty};
 use cpl_restart::{Mid, Whole};
 use cpl_xgrid::Grid;
 use std::alloc::Global;
@@ -26,13 +26,6 @@ pub(crate) struct IceLists {
     pub(crate) heat: Vec<i64>,
     pub(crate) to_ocean: Vec<i64>,
 }
-
-/// Nothing.
-const NOTHING: Salty = Salty {
-    water: 0,
-    heat: 0,
-    salt: 0,
-};
 
 // The skin of a cell.
 fn skin_of(grid: &Grid, mid: &Mid, n: usize) -> Salty

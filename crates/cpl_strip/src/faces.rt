@@ -6,7 +6,6 @@ ghost use Rattle.cpl_mosaic.specs.Mates.{MatesAgree};
 ghost use Rattle.cpl_layout.specs.Pieces.{pieces_of};
 ghost use Rattle.cpl_layout.specs.Owners.{IsPieceOf};
 ghost use Rattle.cpl_strip.specs.Holes.{IsHoleOf, side_at};
-ghost use Rattle.cpl_faces.specs.Faces.{rank};
 ghost use Rattle.cpl_strip.specs.Faces.{AreFaceStrips, spot_of};
 ghost use Rattle.cpl_strip.specs.Tables.{IsFilled, picks, made_at};
 ghost use Rattle.cpl_strip.specs.Taken.{holes_in, comes, face_taken, side_takes, face_strip_made};
@@ -14,6 +13,7 @@ ghost use Rattle.cpl_strip.specs.Taken.{holes_in, comes, face_taken, side_takes,
 use crate::holes::{edge_cell, hole_count, nth_hole, place_in};
 use crate::table::Table;
 use crate::{FaceStrip, Hole};
+use cpl_faces::rank;
 use cpl_fixed::List;
 use cpl_layout::{Layout, Piece};
 use cpl_mosaic::{CellId, Mosaic, Side};
@@ -24,18 +24,6 @@ use std::alloc::{AllocError, Global};
 pub(crate) struct Across {
     pub(crate) source: (u32, u32, Side),
     pub(crate) target: (u32, u32, Side),
-}
-
-// The place of a side in the order W, E, S, N.
-fn rank(side: Side) -> u32
-    ensures { result ≡ rank side }
-{
-    match side {
-        Side::W => 0,
-        Side::E => 1,
-        Side::S => 2,
-        Side::N => 3,
-    }
 }
 
 // Whether one side comes before another: by tile, then row, then column, then W, E, S, N.

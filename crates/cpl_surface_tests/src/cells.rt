@@ -5,15 +5,8 @@ ghost use Rattle.cpl_ice.specs.Slow.{heat_of, water_of};
 
 use crate::rates::example;
 use cpl_fixed::{Gain, share};
-use cpl_ice::{IceCell, Salty, ToIce};
+use cpl_ice::{IceCell, NOTHING, Salty, ToIce};
 use cpl_land::LandCell;
-
-/// No water.
-const NOTHING: Salty = Salty {
-    water: 0,
-    heat: 0,
-    salt: 0,
-};
 
 // A cell of area 12 with one category, and with neither frazil nor skin.
 fn one_category(water: i64, part: i64, ice: i64, heat: i64) -> IceCell
@@ -75,4 +68,49 @@ fn ice_melts(rt: HostRuntime) {
     assert_eq!(rt; (back.water, back.heat, back.salt), (10, 14_260, 0));
     assert_eq!(rt; (cell.ice[0], cell.heat[0]), (0, 0));
     assert_eq!(rt; (cell.parts[0], cell.parts[1]), (65_536, 0));
+}
+
+// A cell of area 16 with three categories, of which two have ice as cold as frazil, with neither frazil nor skin.
+fn three_categories() -> IceCell
+    ensures cell { IsIceCell result }
+    ensures empty { HasNoFlight result }
+    ensures all_water { water_of result ≡ pos 170 }
+    ensures all_heat { heat_of result ≡ pos 185_640 }
+{
+    IceCell {
+        area: 16,
+        categories: 3,
+        parts: [32_768, 16_384, 16_384, 0, 0, 0],
+        ice: [130, 40, 0, 0, 0],
+        heat: [141_960, 43_680, 0, 0, 0],
+        frazil_water: 0,
+        frazil_heat: 0,
+        skin: NOTHING,
+    }
+}
+
+#[test]
+fn ice_freezes_and_ridges(rt: HostRuntime) {
+    let mut cell = three_categories();
+    cell.take(ToIce {
+        frazil_water: 8,
+        frazil_heat: 8_736,
+        skin: Salty {
+            water: 100,
+            heat: 142_600,
+            salt: 10,
+        },
+    });
+    let runoff = Gain {
+        heat: 14_260,
+        water: 10,
+    };
+    let back = cell.slow(&example(), runoff);
+    // The skin leaves with the runoff, and nothing melts.
+    assert_eq!(rt; (back.water, back.heat, back.salt), (110, 156_860, 10));
+    // 8 of frazil close 8 * 65536 / 1600 of the open water, 327. Category 1 has 138 then, above 10 * 16 * 16711 / 65536, and joins
+    // category 2. That has 178 then, above 20 * 16 * 33095 / 65536, which is 161, and joins category 3. Alone it had 40.
+    assert_eq!(rt; cell.parts, [32_441, 0, 0, 33_095, 0, 0]);
+    assert_eq!(rt; cell.ice, [0, 0, 178, 0, 0]);
+    assert_eq!(rt; cell.heat, [0, 0, 194_376, 0, 0]);
 }

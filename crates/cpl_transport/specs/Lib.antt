@@ -3,3 +3,4 @@ pub mod Heights
 pub mod Moves
 pub mod Mixing
 pub mod Cuts
+pub mod Cells

@@ -1,10 +1,10 @@
-use Rattle.std.proofs.Common.{◌≡◌, sym, ap, subst, ℕ, ◌+◌, ◌*◌, arith}
+use Rattle.std.proofs.Common.{◌≡◌, sym, ap, subst, ℕ, ◌+◌, ◌*◌, arith, pos}
 use Rattle.std.proofs.lemmas.Int.{ints}
 use Rattle.std.proofs.lemmas.Nat.{mul-add-lt}
-use Rattle.cpl_atmos.specs.Sweeps.{Computes}
-use Rattle.cpl_atmos.specs.Rows.{IsInSpan}
+use Rattle.cpl_atmos.specs.Sweeps.{Computes, next_at}
+use Rattle.cpl_field.specs.Sweeps.{IsInSpan}
 use Rattle.cpl_atmos.proofs.Divisors.{wide, kept_by}
-use Rattle.cpl_atmos.proofs.Swept.{computes_next}
+use Rattle.cpl_field.proofs.Swept.{computes_next}
 use Rattle.cpl_atmos.proofs.edge.span.Goals as goal
 
 pub bounds-values-first : goal.bounds-values-first
@@ -18,7 +18,7 @@ bounds-values-first c =
 pub loop-i-preserved : goal.loop-i-preserved
 loop-i-preserved c =
     let has = kept_by _ _ _ c.args.areas.now _ _ c.areas.invariant c.areas.view_is in
-    computes_next c.args.areas.now c.args.x.now c.args.from c.loop-i.i c.args.j c.args.values.now c.loop-i.values c.loop-i.invariant c.requires.values (omega arith) (omega arith) (omega arith) (wide c.next_at.result) (c.args.j * c.areas.inside.nx + c.loop-i.i)
+    computes_next (pos 0) c.args.areas.now (next_at c.args.areas.now c.args.x.now) c.args.from c.loop-i.i c.args.j c.args.values.now c.loop-i.values c.loop-i.invariant c.requires.values (omega arith) (omega arith) (omega arith) (wide c.next_at.result) (c.args.j * c.areas.inside.nx + c.loop-i.i)
     (ap (λ m. c.args.j * m + c.loop-i.i) (sym has.columns)) (omega (arith, ints))
 
 pub returns : goal.returns

@@ -1,5 +1,5 @@
 use Rattle.cpl_atmos.specs.Sweeps.{Computes}
-use Rattle.cpl_atmos.specs.Rows.{IsInSpan}
+use Rattle.cpl_field.specs.Sweeps.{IsInSpan}
 use Rattle.cpl_atmos.proofs.edge.span.Given as goal
 
 abbrev pub invariant-loop-i : goal.invariant-loop-i

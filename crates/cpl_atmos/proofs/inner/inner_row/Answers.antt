@@ -5,11 +5,11 @@ use Rattle.std.proofs.lemmas.Nat.{mul-add-lt}
 use Rattle.cpl_mosaic.specs.declared.parts.Side.TheVariants.{E, N}
 use Rattle.cpl_fixed.specs.Flows.{flow}
 use Rattle.cpl_field.specs.Spots.{FieldNumbers, CellAt, IsSameShape, number_at}
-use Rattle.cpl_atmos.specs.Sweeps.{Computes, flow_out}
-use Rattle.cpl_atmos.specs.Rows.{IsInSpan}
+use Rattle.cpl_atmos.specs.Sweeps.{Computes, flow_out, next_at}
+use Rattle.cpl_field.specs.Sweeps.{IsInSpan}
 use Rattle.cpl_atmos.proofs.Divisors.{wide, kept_by}
 use Rattle.cpl_atmos.proofs.Carried.{carried_more, carried_all, west_turned, south_turned, east_flow, north_flow, inner_reads, east_divisor, north_divisor, next_value, same_loss}
-use Rattle.cpl_atmos.proofs.Swept.{computes_next}
+use Rattle.cpl_field.proofs.Swept.{computes_next}
 use Rattle.cpl_atmos.proofs.inner.inner_row.Goals as goal
 
 pub flow_across-east-requires-clause-divisor : goal.flow_across-east-requires-clause-divisor
@@ -252,7 +252,7 @@ loop-i-preserved c =
     record {
       west = record { is = omega (arith, ints); low = omega (arith, ints); high = omega (arith, ints) };
       souths = carried_more now x c.args.j c.loop-i.i c.loop-i.souths c.loop-i.invariant.souths (omega arith) (wide (pos 0 -ℤ wide c.flow_across-north.result)) (record { is = omega (arith, ints); low = omega (arith, ints); high = omega (arith, ints) });
-      values = computes_next now x 1 c.loop-i.i c.args.j c.args.values.now c.loop-i.values c.loop-i.invariant.values c.requires.values (omega arith) (omega arith) (omega arith)
+      values = computes_next (pos 0) now (next_at now x) 1 c.loop-i.i c.args.j c.args.values.now c.loop-i.values c.loop-i.invariant.values c.requires.values (omega arith) (omega arith) (omega arith)
           (wide (wide (get_or c.row-here.result.now (c.loop-i.i + 1) (pos 0)) -ℤ wide (wide (wide (to_z w64 c.loop-i.west-bits +ℤ wide c.flow_across-east.result) +ℤ wide (get_or c.loop-i.souths c.loop-i.i (pos 0))) +ℤ wide c.flow_across-north.result))) (c.args.j * c.areas.inside.nx + c.loop-i.i)
           (ap (λ m. c.args.j * m + c.loop-i.i) (sym has.columns))
           (next_value (wide (get_or c.row-here.result.now (c.loop-i.i + 1) (pos 0))) (to_z w64 c.loop-i.west-bits) c.flow_across-east.result (get_or c.loop-i.souths c.loop-i.i (pos 0)) c.flow_across-north.result

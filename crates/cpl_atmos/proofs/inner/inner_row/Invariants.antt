@@ -1,6 +1,7 @@
 use Rattle.cpl_mosaic.specs.declared.parts.Side.TheVariants.{W}
 use Rattle.cpl_atmos.specs.Sweeps.{Computes, flow_out}
-use Rattle.cpl_atmos.specs.Rows.{IsInSpan, IsLoss}
+use Rattle.cpl_atmos.specs.Rows.{IsLoss}
+use Rattle.cpl_field.specs.Sweeps.{IsInSpan}
 use Rattle.cpl_atmos.proofs.Carried.{AreCarried}
 use Rattle.cpl_atmos.proofs.inner.inner_row.Given as goal
 

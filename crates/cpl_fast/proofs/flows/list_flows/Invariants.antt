@@ -1,7 +1,10 @@
-use Rattle.std.proofs.Common.{◌≡◌, ℕ, ◌<◌, ◌+◌, ◌*◌}
+use Rattle.std.proofs.Common.{◌≡◌, ℕ, ◌<◌, ◌≤◌, length}
 use Rattle.cpl_fast.specs.Flows.{flow_at, flow_in, sky_of}
+use Rattle.cpl_fast.specs.Places.{place_in}
 use Rattle.cpl_fast.proofs.flows.list_flows.Given as goal
 
 abbrev pub invariant-loop-row : goal.invariant-loop-row
-invariant-loop-row l =
-    (r k : ℕ) → r < l.row → k < l.tables.width → flow_at l.flows (r * l.tables.width + k) ≡ flow_in l.rates l.list (sky_of l.skies l.tables r) l.tables r k
+invariant-loop-row l = record {
+  done : (r k : ℕ) → r < l.row → k < l.tables.width → flow_at l.flows (place_in (length l.tables.links.items) r k) ≡ flow_in l.rates l.list (sky_of l.skies l.tables r) l.tables r k;
+  behind : (r k : ℕ) → l.row ≤ r → r < length l.tables.links.items → flow_at l.flows (place_in (length l.tables.links.items) r k) ≡ flow_at l.initial.flows (place_in (length l.tables.links.items) r k);
+}

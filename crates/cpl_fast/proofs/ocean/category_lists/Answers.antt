@@ -32,8 +32,8 @@ gained-requires-clause-range c =
     let categories = c.args.categories in
     let old = at c.args.old.now (n * categories + k) in
     let read : to_z w64 (of_z w64 old) ≡ old = omega (arith, ints) in
-    let gain = gain_is c.ocean_sums-sums.result (ocean_sums c.args.xgrid.now c.args.flows.now (categories + 1) n (k + 1)) c.ocean_sums-sums.ensures.value c.ocean_sums-sums.ensures.small in
-    let same : to_z w64 (of_z w64 old) +ℤ passed (passed c.ocean_sums-sums.result.heat +ℤ passed c.ocean_sums-sums.result.sun) ≡ old +ℤ category_gain c.args.xgrid.now c.args.flows.now categories n k = λ i. read i +ℤ gain i in
+    let gain = gain_is c.ocean_sums-sums.result (ocean_sums c.args.xgrid.now c.args.flows.now n (k + 1)) c.ocean_sums-sums.ensures.value c.ocean_sums-sums.ensures.small in
+    let same : to_z w64 (of_z w64 old) +ℤ passed (passed c.ocean_sums-sums.result.heat +ℤ passed c.ocean_sums-sums.result.sun) ≡ old +ℤ category_gain c.args.xgrid.now c.args.flows.now n k = λ i. read i +ℤ gain i in
     subst IsAmount (sym same) (c.requires.can k (omega arith)).range
 
 pub loop-k-preserved : goal.loop-k-preserved
@@ -47,17 +47,17 @@ loop-k-preserved c =
     let is = c.ocean_sums-sums.ensures.value in
     let old = at c.args.old.now (n * categories + k) in
     let read : to_z w64 (of_z w64 old) ≡ old = omega (arith, ints) in
-    let gain = gain_is sums (ocean_sums c.args.xgrid.now c.args.flows.now (categories + 1) n (k + 1)) is small in
+    let gain = gain_is sums (ocean_sums c.args.xgrid.now c.args.flows.now n (k + 1)) is small in
     let value = amount_passed c.gained.result c.gained.ensures.range ∙ c.gained.ensures.value ∙ (λ i. read i +ℤ gain i) in
     let place : n * categories + k < length c.args.heat.now = omega (arith, place_within (cells_of c.args.xgrid.now.ocean) categories n k c.requires.cell (omega arith)) in
-    let rain_more = sum_to_more (λ j. (ocean_sums c.args.xgrid.now c.args.flows.now (categories + 1) n (j + 1)).rain) k in
-    let heat_more = sum_to_more (λ j. (ocean_sums c.args.xgrid.now c.args.flows.now (categories + 1) n (j + 1)).heat) k in
+    let rain_more = sum_to_more (λ j. (ocean_sums c.args.xgrid.now c.args.flows.now n (j + 1)).rain) k in
+    let heat_more = sum_to_more (λ j. (ocean_sums c.args.xgrid.now c.args.flows.now n (j + 1)).heat) k in
     let rain_is = ap (λ (s : Sums). s.rain) is in
     let heat_is = ap (λ (s : Sums). s.heat) is in
     let rain = more_is c.loop-k.ice.rain sums.rain k (omega arith) inv.small_rain small.rain in
     let heat = more_is c.loop-k.ice.heat sums.heat k (omega arith) inv.small_heat small.heat in
     record {
-      heat = row_more (λ j. at c.args.old.now (n * categories + j) +ℤ category_gain c.args.xgrid.now c.args.flows.now categories n j) c.loop-k.heat (n * categories) k (pos 0) _ (omega (arith, place)) inv.heat value;
+      heat = row_more (λ j. at c.args.old.now (n * categories + j) +ℤ category_gain c.args.xgrid.now c.args.flows.now n j) c.loop-k.heat (n * categories) k (pos 0) _ (omega (arith, place)) inv.heat value;
       others = others_stay c.loop-k.heat c.args.heat.now (n * categories) k (pos 0) _ inv.others;
       rain = rain ∙ (λ i. inv.rain i +ℤ rain_is i) ∙ sym rain_more;
       taken = heat ∙ (λ i. inv.taken i +ℤ heat_is i) ∙ sym heat_more;
@@ -70,8 +70,8 @@ unfolding ice_of
 returns-clause-value c =
     let categories = c.args.categories in
     let n : c.loop-k.k ≡ categories = omega arith in
-    let f : ℕ → ℤ = λ j. (ocean_sums c.args.xgrid.now c.args.flows.now (categories + 1) c.args.n (j + 1)).rain in
-    let g : ℕ → ℤ = λ j. (ocean_sums c.args.xgrid.now c.args.flows.now (categories + 1) c.args.n (j + 1)).heat in
+    let f : ℕ → ℤ = λ j. (ocean_sums c.args.xgrid.now c.args.flows.now c.args.n (j + 1)).rain in
+    let g : ℕ → ℤ = λ j. (ocean_sums c.args.xgrid.now c.args.flows.now c.args.n (j + 1)).heat in
     let rain = c.loop-k.invariant.rain ∙ ap (sum_to f) n ∙ sym (total_range f categories) in
     let heat = c.loop-k.invariant.taken ∙ ap (sum_to g) n ∙ sym (total_range g categories) in
     λ i. record { rain = rain i; heat = heat i }

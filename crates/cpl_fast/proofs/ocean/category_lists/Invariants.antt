@@ -8,10 +8,10 @@ use Rattle.cpl_fast.proofs.ocean.category_lists.Given as goal
 
 abbrev pub invariant-loop-k : goal.invariant-loop-k
 invariant-loop-k l = record {
-  heat : (j : ℕ) → j < l.k → at l.heat (l.n * l.categories + j) ≡ at l.old (l.n * l.categories + j) +ℤ category_gain l.xgrid l.flows l.categories l.n j;
+  heat : (j : ℕ) → j < l.k → at l.heat (l.n * l.categories + j) ≡ at l.old (l.n * l.categories + j) +ℤ category_gain l.xgrid l.flows l.n j;
   others : (m : ℕ) → m < l.n * l.categories → at l.heat m ≡ at l.initial.heat m;
-  rain : l.ice.rain ≡ sum_to (λ j. (ocean_sums l.xgrid l.flows (l.categories + 1) l.n (j + 1)).rain) l.k;
-  taken : l.ice.heat ≡ sum_to (λ j. (ocean_sums l.xgrid l.flows (l.categories + 1) l.n (j + 1)).heat) l.k;
+  rain : l.ice.rain ≡ sum_to (λ j. (ocean_sums l.xgrid l.flows l.n (j + 1)).rain) l.k;
+  taken : l.ice.heat ≡ sum_to (λ j. (ocean_sums l.xgrid l.flows l.n (j + 1)).heat) l.k;
   small_rain : IsSmall (l.k * 2 ^ 20) l.ice.rain;
   small_heat : IsSmall (l.k * 2 ^ 20) l.ice.heat;
 }

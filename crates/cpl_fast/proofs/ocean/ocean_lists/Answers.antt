@@ -61,7 +61,7 @@ loop-n-preserved c =
     let here = takes_all xgrid flows categories n (at c.args.old_heat.now n) (at c.args.old_water.now n) c.loop-n.all skin c.add.new.self c.add-in-loop-n.new.self (passed ice.heat) is c.add.ensures.value c.add-in-loop-n.ensures.value ice_heat in
     let small = c.category_lists-ice.ensures.taken in
     record {
-      ice_heat = rows_more (λ m k. at c.args.old_ice.now (m * categories + k) +ℤ category_gain xgrid flows categories m k) c.loop-n.ice_heat c.category_lists-ice.new.heat categories n (pos 0) inv.ice_heat c.category_lists-ice.ensures.heat c.category_lists-ice.ensures.others;
+      ice_heat = rows_more (λ m k. at c.args.old_ice.now (m * categories + k) +ℤ category_gain xgrid flows m k) c.loop-n.ice_heat c.category_lists-ice.new.heat categories n (pos 0) inv.ice_heat c.category_lists-ice.ensures.heat c.category_lists-ice.ensures.others;
       heat = written (λ k. (f k).heat) c.loop-n.heat n (pos 0) _ (omega arith) inv.heat (heat_passed ∙ ap (λ (a : After). a.heat) is);
       water = written (λ k. (f k).water) c.loop-n.water n (pos 0) _ (omega arith) inv.water (water_passed ∙ ap (λ (a : After). a.water) is);
       taken = one_more c.loop-n.all (ocean_at xgrid flows categories n) c.add-in-loop-n.new.self n (ocean_at xgrid flows categories) here inv.taken (λ i. ocean_at xgrid flows categories n);

@@ -7,7 +7,7 @@ use Rattle.cpl_fast.proofs.ocean.ocean_lists.Given as goal
 
 abbrev pub invariant-loop-n : goal.invariant-loop-n
 invariant-loop-n l = record {
-  ice_heat : (m k : ℕ) → m < l.n → k < l.categories → at l.ice_heat (m * l.categories + k) ≡ at l.old_ice (m * l.categories + k) +ℤ category_gain l.xgrid l.flows l.categories m k;
+  ice_heat : (m k : ℕ) → m < l.n → k < l.categories → at l.ice_heat (m * l.categories + k) ≡ at l.old_ice (m * l.categories + k) +ℤ category_gain l.xgrid l.flows m k;
   heat : (k : ℕ) → k < l.n → at l.heat k ≡ (skin_at l.xgrid l.flows l.categories (at l.old_heat k) (at l.old_water k) k).heat;
   water : (k : ℕ) → k < l.n → at l.water k ≡ (skin_at l.xgrid l.flows l.categories (at l.old_heat k) (at l.old_water k) k).water;
   taken : l.all ≡ taken_to l.n (λ k. ocean_at l.xgrid l.flows l.categories k);

@@ -1,4 +1,4 @@
-use Rattle.std.proofs.Common.{◌≡◌, ◌∙◌, sym, ap, subst, ◌+◌, ◌^◌, arith, to_z, of_z, w64}
+use Rattle.std.proofs.Common.{◌≡◌, ◌∙◌, sym, ap, subst, ◌^◌, arith, to_z, of_z, w64}
 use Rattle.std.specs.Prelude.{ℤ, ◌+ℤ◌}
 use Rattle.std.proofs.lemmas.Int.{ints}
 use Rattle.cpl_fixed.specs.Amounts.{IsAmount}
@@ -21,7 +21,7 @@ takes sums other t r rain wet e t_is small w r_is =
 pub gain-requires-clause-heat : goal.gain-requires-clause-heat
 unfolding skin_at
 gain-requires-clause-heat c =
-    let other = ocean_sums c.args.xgrid.now c.args.flows.now (c.args.categories + 1) c.args.n 0 in
+    let other = ocean_sums c.args.xgrid.now c.args.flows.now c.args.n 0 in
     let sums = c.ocean_sums-sums.result in
     let is = c.ocean_sums-sums.ensures.value in
     let heat : to_z w64 (of_z w64 c.args.heat) ≡ c.args.heat = omega (arith, ints) in
@@ -32,7 +32,7 @@ gain-requires-clause-heat c =
 pub gain-requires-clause-water : goal.gain-requires-clause-water
 unfolding skin_at
 gain-requires-clause-water c =
-    let other = ocean_sums c.args.xgrid.now c.args.flows.now (c.args.categories + 1) c.args.n 0 in
+    let other = ocean_sums c.args.xgrid.now c.args.flows.now c.args.n 0 in
     let is = c.ocean_sums-sums.ensures.value in
     let water : to_z w64 (of_z w64 c.args.water) ≡ c.args.water = omega (arith, ints) in
     let t = takes c.ocean_sums-sums.result other c.taken_by.result c.with_rain.result c.args.rain (ice_of c.args.xgrid.now c.args.flows.now c.args.categories c.args.n).rain is c.taken_by.ensures.value c.requires.small c.requires.rain c.with_rain.ensures.value in
@@ -41,7 +41,7 @@ gain-requires-clause-water c =
 pub returns-clause-value : goal.returns-clause-value
 unfolding skin_at
 returns-clause-value c =
-    let other = ocean_sums c.args.xgrid.now c.args.flows.now (c.args.categories + 1) c.args.n 0 in
+    let other = ocean_sums c.args.xgrid.now c.args.flows.now c.args.n 0 in
     let sums = c.ocean_sums-sums.result in
     let is = c.ocean_sums-sums.ensures.value in
     let heat : to_z w64 (of_z w64 c.args.heat) ≡ c.args.heat = omega (arith, ints) in

@@ -3,5 +3,5 @@ use Rattle.cpl_field.specs.Spots.{CellAt}
 use Rattle.cpl_transport.specs.Salts.{IsSalty}
 use Rattle.cpl_ocean.proofs.flows.transported.Goals as goal
 
-pub left-requires-clause-here : goal.left-requires-clause-here
-left-requires-clause-here c = subst IsSalty (sym c.get.ensures) (c.requires.salty (CellAt c.args.i c.args.j) c.requires.cell)
+pub without-requires-clause-here : goal.without-requires-clause-here
+without-requires-clause-here c = subst IsSalty (sym c.get.ensures) (c.requires.salty (CellAt c.args.i c.args.j) c.requires.cell)

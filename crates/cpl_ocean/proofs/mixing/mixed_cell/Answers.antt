@@ -1,20 +1,14 @@
-use Rattle.std.proofs.Common.{◌≡◌, ◌∙◌, sym, ap, subst, arith, ℕ, suc, ◌-◌, List, length}
+use Rattle.std.proofs.Common.{◌≡◌, ◌∙◌, sym, ap, subst, arith, ◌-◌, List, length}
 use Rattle.std.specs.Prelude.{slice_index_or}
 use Rattle.std.proofs.lemmas.List.{get_or_read}
-use Rattle.cpl_ice.specs.declared.parts.Salty.{Salty}
 use Rattle.cpl_transport.specs.Salts.{IsSalty, joined, nothing, without}
+use Rattle.cpl_transport.proofs.Exchanges.{mixed_below}
 use Rattle.cpl_ocean.specs.Layers.{LayerNumbers, no_layer}
-use Rattle.cpl_ocean.specs.Columns.{column_left, mixed_cell, passed_cell}
+use Rattle.cpl_ocean.specs.Columns.{column_left}
 use Rattle.cpl_ocean.proofs.mixing.mixed_cell.Goals as goal
 
-mixed_below : (mix layers : ℕ) (column : ℕ → Salty) (layer k : ℕ) → suc k ≡ layer
-    → without (joined (column layer) (passed_cell mix layers column k)) (passed_cell mix layers column layer) ≡ mixed_cell mix layers column layer
-mixed_below mix layers column layer k e =
-    let P = λ (l : ℕ). without (joined (column l) (passed_cell mix layers column k)) (passed_cell mix layers column l) ≡ mixed_cell mix layers column l in
-    subst P e (λ _. mixed_cell mix layers column (suc k))
-
-pub left-requires-clause-here : goal.left-requires-clause-here
-left-requires-clause-here c =
+pub without-requires-clause-here : goal.without-requires-clause-here
+without-requires-clause-here c =
     let layers : List LayerNumbers = c.args.layers.now in
     let same = get_or_read layers c.args.l c.index-layers-l.result c.requires.layer c.index-layers-l.is no_layer in
     subst IsSalty (sym (c.left_at-here.ensures ∙ ap (λ (layer : LayerNumbers). slice_index_or layer.left c.args.place nothing) same)) (c.requires.left c.args.l c.requires.layer)

@@ -1,7 +1,8 @@
 use Rattle.std.proofs.Common.{◌∙◌, sym, subst, ap, arith, ℕ, List, ◌+◌, ◌*◌, ◌<◌, length}
 use Rattle.std.proofs.lemmas.List.{get_or_default}
 use Rattle.cpl_ocean.specs.Layers.{LayerNumbers, SetsCell, no_layer}
-use Rattle.cpl_ocean.specs.Columns.{column_left, mixed_cell}
+use Rattle.cpl_transport.specs.Cells.{mixed_cell}
+use Rattle.cpl_ocean.specs.Columns.{column_left}
 use Rattle.cpl_ocean.proofs.Stored.{row_more}
 use Rattle.cpl_ocean.proofs.mixing.store_row.Goals as goal
 

@@ -1,6 +1,8 @@
 use Rattle.std.proofs.Common.{sym, subst, ℕ, ◌-◌, arith}
-use Rattle.cpl_ocean.specs.Sweeps.{Computes, IsInner, IsInSpan, left_in}
-use Rattle.cpl_ocean.proofs.Swept.{rim_ends, rim_whole}
+use Rattle.cpl_field.specs.Sweeps.{IsInSpan}
+use Rattle.cpl_transport.specs.Salts.{nothing}
+use Rattle.cpl_ocean.specs.Sweeps.{Computes, IsInner, left_in}
+use Rattle.cpl_field.proofs.Swept.{rim_ends, rim_whole}
 use Rattle.cpl_ocean.proofs.sweep.rim_row.Goals.{then-nx-lt5-via-then-nx-lt5, then-nx-lt5-via-else-nx-lt5+then-j-lt2, then-nx-lt5-via-else-nx-lt5+else-j-lt2+then-j-basin}
 use Rattle.cpl_ocean.proofs.sweep.rim_row.Goals as goal
 
@@ -16,7 +18,7 @@ returns-then-nx-lt5 c =
       | then-nx-lt5-via-else-nx-lt5+then-j-lt2 w ↦ let few = w.if-j-lt2.true in absurd (omega arith)
       | then-nx-lt5-via-else-nx-lt5+else-j-lt2+then-j-basin w ↦ let few = w.if-j-basin.true in absurd (omega arith)
     ] in
-    rim_whole basin.area (left_in basin c.args.slope c.args.fields.now) c.args.j c.args.left.now c.span.new.left none
+    rim_whole nothing basin.area (left_in basin c.args.slope c.args.fields.now) 2 c.args.j c.args.left.now c.span.new.left none
     (subst (λ (m : ℕ). Computes basin.area (left_in basin c.args.slope c.args.fields.now) (IsInSpan 0 m c.args.j) c.args.left.now c.span.new.left) (sym columns) c.span.ensures)
 
 pub returns : goal.returns
@@ -27,5 +29,5 @@ returns c =
     let some = c.if-j-lt2.false in
     let more = c.if-j-basin.false in
     let wide = c.if-nx-lt5.false in
-    rim_ends basin.area (left_in basin c.args.slope c.args.fields.now) c.args.j c.args.left.now c.span-2.new.left c.span-3.new.left (omega arith) (omega arith) c.span-2.ensures
+    rim_ends nothing basin.area (left_in basin c.args.slope c.args.fields.now) 2 c.args.j c.args.left.now c.span-2.new.left c.span-3.new.left (omega arith) (omega arith) c.span-2.ensures
     (subst (λ (m : ℕ). Computes basin.area (left_in basin c.args.slope c.args.fields.now) (IsInSpan (m - 2) m c.args.j) c.span-2.new.left c.span-3.new.left) (sym columns) c.span-3.ensures)

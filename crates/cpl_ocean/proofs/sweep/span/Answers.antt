@@ -1,7 +1,9 @@
 use Rattle.std.proofs.Common.{◌≡◌, ◌∙◌, sym, ap, subst, ℕ, ◌+◌, ◌*◌, arith}
 use Rattle.std.proofs.lemmas.Nat.{mul-add-lt}
-use Rattle.cpl_ocean.specs.Sweeps.{Computes, IsInSpan, left_in}
-use Rattle.cpl_ocean.proofs.Swept.{computes_next}
+use Rattle.cpl_field.specs.Sweeps.{IsInSpan}
+use Rattle.cpl_transport.specs.Salts.{nothing}
+use Rattle.cpl_ocean.specs.Sweeps.{Computes, left_in}
+use Rattle.cpl_field.proofs.Swept.{computes_next}
 use Rattle.cpl_ocean.proofs.sweep.span.Goals as goal
 
 pub bounds-left-first : goal.bounds-left-first
@@ -16,7 +18,7 @@ loop-i-preserved c =
     let is = c.requires.basin in
     let columns = is.columns in
     let rows = is.rows in
-    computes_next basin.area (left_in basin c.args.slope c.args.fields.now) c.args.from c.loop-i.i c.args.j c.args.left.now c.loop-i.left c.loop-i.invariant (c.requires.left ∙ (λ t. sym columns t * sym rows t)) (omega arith) (omega arith) (omega arith) c.transported.result (c.args.j * basin.nx + c.loop-i.i)
+    computes_next nothing basin.area (left_in basin c.args.slope c.args.fields.now) c.args.from c.loop-i.i c.args.j c.args.left.now c.loop-i.left c.loop-i.invariant (c.requires.left ∙ (λ t. sym columns t * sym rows t)) (omega arith) (omega arith) (omega arith) c.transported.result (c.args.j * basin.nx + c.loop-i.i)
     (ap (λ m. c.args.j * m + c.loop-i.i) (sym columns)) c.transported.ensures
 
 pub returns : goal.returns

@@ -1,4 +1,5 @@
-use Rattle.cpl_ocean.specs.Sweeps.{Computes, IsInSpan, left_in}
+use Rattle.cpl_field.specs.Sweeps.{IsInSpan}
+use Rattle.cpl_ocean.specs.Sweeps.{Computes, left_in}
 use Rattle.cpl_ocean.proofs.sweep.span.Given as goal
 
 abbrev pub invariant-loop-i : goal.invariant-loop-i

@@ -1,7 +1,8 @@
 use Rattle.std.proofs.Common.{◌≡◌, ◌∙◌, ◌+◌, ◌*◌}
 use Rattle.cpl_fixed.specs.Amounts.{at}
 use Rattle.cpl_ice.specs.declared.parts.Salty.{Salty}
-use Rattle.cpl_sea.specs.Passes.{column_at, mixed_cell}
+use Rattle.cpl_transport.specs.Cells.{mixed_cell}
+use Rattle.cpl_sea.specs.Passes.{column_at}
 use Rattle.cpl_sea.proofs.Rows.{one_more, place_below}
 use Rattle.cpl_sea.proofs.columns.mix.Goals as goal
 

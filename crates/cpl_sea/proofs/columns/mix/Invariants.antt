@@ -1,7 +1,8 @@
 use Rattle.std.proofs.Common.{◌≡◌, ℕ, ◌+◌, ◌*◌, ◌<◌}
 use Rattle.cpl_fixed.specs.Amounts.{at}
 use Rattle.cpl_ice.specs.declared.parts.Salty.{Salty}
-use Rattle.cpl_sea.specs.Passes.{column_at, mixed_cell}
+use Rattle.cpl_transport.specs.Cells.{mixed_cell}
+use Rattle.cpl_sea.specs.Passes.{column_at}
 use Rattle.cpl_sea.proofs.columns.mix.Given as goal
 
 abbrev pub invariant-loop-layer : goal.invariant-loop-layer

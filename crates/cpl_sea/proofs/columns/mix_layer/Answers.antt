@@ -1,7 +1,8 @@
 use Rattle.std.proofs.Common.{◌∙◌, ap, arith, rules, ℕ, ◌+◌, ◌*◌, ◌<◌, FitsSigned, w64, pos, length}
 use Rattle.std.proofs.lemmas.Int.{to_z-of_z}
 use Rattle.cpl_ice.specs.declared.parts.Salty.{Salty}
-use Rattle.cpl_sea.specs.Passes.{column_at, mixed_cell}
+use Rattle.cpl_transport.specs.Cells.{mixed_cell}
+use Rattle.cpl_sea.specs.Passes.{column_at}
 use Rattle.cpl_sea.proofs.Rows.{place_below}
 use Rattle.cpl_sea.proofs.Writes.{written, written_before}
 use Rattle.cpl_sea.proofs.columns.mix_layer.Goals as goal

@@ -1,6 +1,7 @@
 use Rattle.std.proofs.Common.{◌≡◌, ℕ, ◌+◌, ◌*◌, ◌<◌}
 use Rattle.cpl_fixed.specs.Amounts.{at}
-use Rattle.cpl_sea.specs.Passes.{column_at, mixed_cell}
+use Rattle.cpl_transport.specs.Cells.{mixed_cell}
+use Rattle.cpl_sea.specs.Passes.{column_at}
 use Rattle.cpl_sea.proofs.columns.mix_layer.Given as goal
 
 abbrev pub invariant-loop-n : goal.invariant-loop-n

@@ -1,18 +1,8 @@
-use Rattle.std.proofs.Common.{◌≡◌, ◌∙◌, refl, subst, arith, ℕ, suc, ◌-◌}
-use Rattle.cpl_ice.specs.declared.parts.Salty.{Salty}
+use Rattle.std.proofs.Common.{◌≡◌, ◌∙◌, arith, ◌-◌}
 use Rattle.cpl_transport.specs.Salts.{joined, without}
-use Rattle.cpl_sea.specs.Passes.{column_at, mixed_cell, passed_cell}
+use Rattle.cpl_transport.proofs.Exchanges.{mixed_below}
+use Rattle.cpl_sea.specs.Passes.{column_at}
 use Rattle.cpl_sea.proofs.columns.mixed_cell.Goals as goal
-
-below_top : (mix layers : ℕ) (column : ℕ → Salty) (k : ℕ)
-    → without (joined (column (suc k)) (passed_cell mix layers column k)) (passed_cell mix layers column (suc k)) ≡ mixed_cell mix layers column (suc k)
-below_top mix layers column k = refl
-
-mixed_below : (mix layers : ℕ) (column : ℕ → Salty) (layer k : ℕ) → suc k ≡ layer
-    → without (joined (column layer) (passed_cell mix layers column k)) (passed_cell mix layers column layer) ≡ mixed_cell mix layers column layer
-mixed_below mix layers column layer k e =
-    let P = λ (l : ℕ). without (joined (column l) (passed_cell mix layers column k)) (passed_cell mix layers column l) ≡ mixed_cell mix layers column l in
-    subst P e (below_top mix layers column k)
 
 pub returns-else-layer-eq0 : goal.returns-else-layer-eq0
 returns-else-layer-eq0 c =

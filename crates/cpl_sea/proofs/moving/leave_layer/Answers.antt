@@ -11,9 +11,9 @@ loop-n-preserved c =
     let rest = c.loop-n.rest in
     let cells = c.args.cells.now in
     let within : begin + n < length rest = omega arith in
-    let value : c.left.result ≡ without (salty_at cells (begin + n)) (out_of (salty_at c.args.flows.now) (cell_faces_at c.args.faces.now n)) =
-    c.left.ensures ∙ ap (without (salty_at cells (begin + n))) c.moved_out-out.ensures.value in
+    let value : c.without.result ≡ without (salty_at cells (begin + n)) (out_of (salty_at c.args.flows.now) (cell_faces_at c.args.faces.now n)) =
+    c.without.ensures ∙ ap (without (salty_at cells (begin + n))) c.moved_out-out.ensures.value in
     record {
-      left = written nothing rest begin n c.left.result within (λ k. without (salty_at cells (begin + k)) (out_of (salty_at c.args.flows.now) (cell_faces_at c.args.faces.now k))) value c.loop-n.invariant.left;
-      before = written_before nothing rest begin n c.left.result within c.args.rest.now c.loop-n.invariant.before;
+      left = written nothing rest begin n c.without.result within (λ k. without (salty_at cells (begin + k)) (out_of (salty_at c.args.flows.now) (cell_faces_at c.args.faces.now k))) value c.loop-n.invariant.left;
+      before = written_before nothing rest begin n c.without.result within c.args.rest.now c.loop-n.invariant.before;
     }

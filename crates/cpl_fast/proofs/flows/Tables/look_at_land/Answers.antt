@@ -23,6 +23,7 @@ returns c =
     record {
       tables = land_tables s is c.cells-airs.ensures.mates c.requires.can c.as_slice-heat.result.now c.as_slice-water.result.now c.args.area.now
           c.as_slice-heat.ensures c.as_slice-water.ensures c.requires.parts
-          c.args.self.now c.requires.tables c.requires.areas c.fill_land.new.parts _ refl refl refl gone
+          c.args.self.now c.requires.tables c.requires.areas c.fill_land.new.parts _ refl refl refl refl gone
           (c.fill_land.ensures.count ∙ lent) (λ n l. c.fill_land.ensures.value n (omega (arith, l, lent)));
+      others = refl;
     }

@@ -22,6 +22,7 @@ returns c =
     record {
       tables = ocean_tables s is c.cells-airs.ensures.mates c.requires.can c.as_slice.result.now c.as_slice-2.result.now c.as_slice-3.result.now c.as_slice-4.result.now c.args.area.now
           c.as_slice.ensures c.as_slice-2.ensures c.as_slice-3.ensures c.as_slice-4.ensures c.requires.parts
-          c.args.self.now c.requires.tables c.requires.areas c.fill_ocean.new.parts _ refl refl refl gone
+          c.args.self.now c.requires.tables c.requires.areas c.fill_ocean.new.parts _ refl refl refl refl gone
           (c.fill_ocean.ensures.count ∙ ap length c.deref_mut.ensures.value) c.fill_ocean.ensures.value;
+      others = refl;
     }

@@ -1,8 +1,10 @@
-use Rattle.std.proofs.Common.{◌∙◌, refl, sym, ap, arith, length}
+use Rattle.std.proofs.Common.{◌∙◌, refl, sym, ap, subst, arith, length}
 use Rattle.std.proofs.lemmas.List.{with_items_is}
+use Rattle.cpl_xgrid.specs.declared.parts.Surface.TheVariants.{Ocean}
 use Rattle.cpl_restart.specs.FastStep.{heat_after_rain, rain, vapour_after_rain}
 use Rattle.cpl_fast.specs.declared.air.Rained.{Rained}
-use Rattle.cpl_fast.specs.Stages.{step_of}
+use Rattle.cpl_fast.specs.Stages.{AreFlows, dry, step_of}
+use Rattle.cpl_fast.proofs.Empty.{dry_clear}
 use Rattle.cpl_fast.proofs.Parts.{amount_cast, amount_fits_wide}
 use Rattle.cpl_fast.proofs.ToAir.{room_can, room_left, room_numbers}
 use Rattle.cpl_fast.proofs.room.FastRoom.let_rain.Goals as goal
@@ -10,6 +12,11 @@ use Rattle.cpl_fast.proofs.room.FastRoom.let_rain.Goals as goal
 pub air_lists-left-requires-clause-can : goal.air_lists-left-requires-clause-can
 air_lists-left-requires-clause-can c =
     room_can (step_of c.args.view.now) c.args.self.now c.requires c.deref.result.now c.deref-2.result.now c.deref-3.result.now c.deref.ensures.value c.deref-2.ensures.value c.deref-3.ensures.value
+
+pub air_lists-left-requires-clause-clear : goal.air_lists-left-requires-clause-clear
+air_lists-left-requires-clause-clear c =
+    let s = step_of c.args.view.now in
+    dry_clear s Ocean c.args.self.now.ocean c.requires.seen.ocean c.deref-3.result.now (subst (AreFlows s dry Ocean) (sym c.deref-3.ensures.value) c.requires.ocean)
 
 pub overflow_cast-result : goal.overflow_cast-result
 overflow_cast-result c =

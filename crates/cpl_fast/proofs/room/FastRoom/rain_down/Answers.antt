@@ -5,6 +5,7 @@ use Rattle.cpl_xgrid.specs.declared.parts.Surface.TheVariants.{Land, Ocean}
 use Rattle.cpl_restart.specs.FastStep.{entered, rain_on}
 use Rattle.cpl_fast.specs.Filled.{AreSkies}
 use Rattle.cpl_fast.specs.Stages.{AreFlows, dry, step_of}
+use Rattle.cpl_fast.proofs.Empty.{dry_clear, wet_clear}
 use Rattle.cpl_fast.proofs.Keeping.{keep_flows}
 use Rattle.cpl_fast.proofs.Parts.{amount_cast, amount_fits_wide}
 use Rattle.cpl_fast.proofs.Small.{passed, smaller, sum_fits, sum_passed}
@@ -31,6 +32,11 @@ list_rain-land-requires-clause-can c =
     let seen = c.requires.flows.seen in
     can_rain_on s seen.lawful Land c.args.self.now.land c.deref.result.now seen.land (subst (AreSkies s) (sym c.deref.ensures.value) seen.skies) c.deref-2.result.now (c.deref-2.ensures.value ∙ c.requires.rained.rain)
 
+pub list_rain-land-requires-clause-clear : goal.list_rain-land-requires-clause-clear
+list_rain-land-requires-clause-clear c =
+    let s = step_of c.args.view.now in
+    dry_clear s Land c.args.self.now.land c.requires.flows.seen.land c.deref_mut.result.now (subst (AreFlows s dry Land) (sym c.deref_mut.ensures.value) c.requires.flows.land)
+
 -- THE RAIN ON THE OCEAN
 
 pub list_rain-ocean-requires-clause-airs : goal.list_rain-ocean-requires-clause-airs
@@ -50,6 +56,11 @@ list_rain-ocean-requires-clause-can c =
     let s = step_of c.args.view.now in
     let seen = c.requires.flows.seen in
     can_rain_on s seen.lawful Ocean c.args.self.now.ocean c.deref-3.result.now seen.ocean (subst (AreSkies s) (sym c.deref-3.ensures.value) seen.skies) c.deref-4.result.now (c.deref-4.ensures.value ∙ c.requires.rained.rain)
+
+pub list_rain-ocean-requires-clause-clear : goal.list_rain-ocean-requires-clause-clear
+list_rain-ocean-requires-clause-clear c =
+    let s = step_of c.args.view.now in
+    dry_clear s Ocean c.args.self.now.ocean c.requires.flows.seen.ocean c.deref_mut-2.result.now (subst (AreFlows s dry Ocean) (sym c.deref_mut-2.ensures.value) c.requires.flows.ocean)
 
 -- WHAT THE AIR GAVE
 
@@ -152,8 +163,10 @@ returns-clause-flows c =
     let ocean_long = c.list_rain-ocean.auto.flows ∙ ap length c.deref_mut-2.ensures.value ∙ seen.room.room.ocean_flows in
     let land_is = with_items_is room.land_flows c.list_rain-land.new.flows (omega (arith, c.list_rain-land.auto.flows, c.deref_mut.ensures.len)) in
     let ocean_is = with_items_is room.ocean_flows c.list_rain-ocean.new.flows (omega (arith, c.list_rain-ocean.auto.flows, c.deref_mut-2.ensures.len)) in
+    let land = subst (AreFlows s (rain_on s) Land) (sym land_is) land_wet in
+    let ocean = subst (AreFlows s (rain_on s) Ocean) (sym ocean_is) ocean_wet in
     record {
-      seen = keep_flows s room _ seen refl (ap length land_is ∙ land_long) (ap length ocean_is ∙ ocean_long);
-      land = subst (AreFlows s (rain_on s) Land) (sym land_is) land_wet;
-      ocean = subst (AreFlows s (rain_on s) Ocean) (sym ocean_is) ocean_wet;
+      seen = keep_flows s room _ seen refl (ap length land_is ∙ land_long) (ap length ocean_is ∙ ocean_long) (wet_clear s Land room.land seen.land _ land) (wet_clear s Ocean room.ocean seen.ocean _ ocean);
+      land = land;
+      ocean = ocean;
     }

@@ -1,13 +1,27 @@
-use Rattle.std.proofs.Common.{◌≡◌, ◌∙◌, refl, sym, ap, subst, arith, ℕ, length}
+use Rattle.std.proofs.Common.{◌≡◌, ◌∙◌, refl, sym, ap, subst, arith, ℕ, ◌+◌, ◌*◌, ◌<◌, List, length}
+use Rattle.std.specs.Prelude.{ℤ}
+use Rattle.cpl_fixed.specs.Amounts.{at}
 use Rattle.std.proofs.lemmas.List.{with_items_is}
 use Rattle.cpl_xgrid.specs.declared.parts.Surface.TheVariants.{Ocean}
-use Rattle.cpl_restart.specs.States.{ocean_cells}
+use Rattle.cpl_restart.specs.States.{categories, ocean_cells}
 use Rattle.cpl_restart.specs.FastStep.{rain_on}
 use Rattle.cpl_fast.specs.Stages.{AreFlows, step_of}
 use Rattle.cpl_fast.specs.Surfaces.{ocean_at, taken_to}
+use Rattle.cpl_fast.proofs.Empty.{no_sums}
 use Rattle.cpl_fast.proofs.Keeping.{keep_ice}
 use Rattle.cpl_fast.proofs.ToSurface.{can_gain_ice, can_gain_skin, ice_heats, ice_took, skin_heats, skin_waters}
 use Rattle.cpl_fast.proofs.room.FastRoom.take_on_ice.Goals as goal
+
+pub ocean_lists-requires-clause-still : goal.ocean_lists-requires-clause-still
+ocean_lists-requires-clause-still c =
+    let s = step_of c.args.view.now in
+    let areas = c.requires.seen.room.ocean_area in
+    let are = subst (AreFlows s (rain_on s) Ocean) (sym c.deref.ensures.value) c.requires.ocean in
+    let count = ap length c.as_slice-2.ensures ∙ c.requires.seen.lawful.can.mid.skin_heat.count in
+    λ n l k h e. (
+    let below : n < ocean_cells s.grid = omega (arith, l, count) in
+    let own = sym (areas.each n k below h) ∙ ap (λ (xs : List ℤ). at xs (n * (categories s.grid + 1) + k)) (sym c.deref-2.ensures.value) ∙ e in
+    no_sums s c.requires.seen.lawful c.deref.result.now are n k below h own)
 
 pub ocean_lists-requires-clause-skins : goal.ocean_lists-requires-clause-skins
 ocean_lists-requires-clause-skins c =

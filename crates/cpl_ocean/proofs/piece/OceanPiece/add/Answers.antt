@@ -11,5 +11,5 @@ invariant_of-self c =
     let count = ap (λ (ocean : OceanNumbers). length ocean.layers) c.self.view_is in
     let some = c.requires.some in
     let within : 0 < length layers = omega arith in
-    ocean_set c.self.inside.basin layers 0 c.index_mut.result.now c.set.new.self c.args.i c.args.j c.both.result c.self.invariant within
+    ocean_set c.self.inside.basin layers 0 c.index_mut.result.now c.set.new.self c.args.i c.args.j c.joined.result c.self.invariant within
     (get_or_read layers 0 c.index_mut.result.now within c.index_mut.ensures.value no_layer) c.set.ensures.fields c.set.ensures.left

@@ -12,7 +12,8 @@ use Rattle.cpl_restart.specs.Transport.{Sea, face_count, next_number, stepped, t
 use Rattle.cpl_sea.specs.declared.links.Link.{Link}
 use Rattle.cpl_sea.specs.declared.links.CellFaces.{CellFaces}
 use Rattle.cpl_sea.specs.Links.{all_cell_faces, links_of}
-use Rattle.cpl_sea.specs.Passes.{AreSidesWithin, IsLinkWithin, column_at, mixed_cell}
+use Rattle.cpl_transport.specs.Cells.{mixed_cell}
+use Rattle.cpl_sea.specs.Passes.{AreSidesWithin, IsLinkWithin, column_at}
 use Rattle.cpl_sea.specs.Rooms.{sea_in}
 use Rattle.cpl_sea.specs.Seas.{IsOcean, IsSea}
 use Rattle.cpl_sea.proofs.Looked.{all_sides_within, length_cell_faces, length_links, links_within}
