@@ -5,6 +5,7 @@ pub mod Diffusion
 pub mod States
 pub mod Lawful
 pub mod RestartBytes
+pub mod SecondBytes
 pub mod Counts
 pub mod Elements
 pub mod FastStep

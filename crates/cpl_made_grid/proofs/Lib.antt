@@ -1,0 +1,9 @@
+pub mod Joins
+pub mod Mosaics
+pub mod Ranges
+pub mod Cuts
+pub mod RowLaws
+pub mod AreaLaws
+pub mod OutletLaws
+pub mod GridLaws
+pub mod TotalLaws

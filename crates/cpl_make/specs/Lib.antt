@@ -1,0 +1,4 @@
+pub mod Sections
+pub mod Starts
+pub mod Texts
+pub mod Inputs
