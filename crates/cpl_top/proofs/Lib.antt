@@ -5,3 +5,6 @@ pub mod Meshes
 pub mod Judging
 pub mod Walking
 pub mod Steps
+pub mod Outcomes
+pub mod Made
+pub mod Last

@@ -86,6 +86,12 @@ module _ {S : Type 0} {told : S → Bool} {files : S → Files} {faults : S → 
       → Walks told files faults failed (ask_inputs grid names start rest) old new result
   walks_inputs are walks = walks_read are.grid_bytes (walks_read are.names_bytes (walks_read are.start_bytes walks))
 
+  -- a command that reads no file
+  pub walks_nowhere : {answer : Result Reply Status} {shelf : S} {result : Result Reply Status}
+      → Answers (λ reply. reply) result answer → IfOk result (λ reply. AreApart reply.outputs)
+      → Walks told files faults failed (End answer) shelf shelf result
+  walks_nowhere answers apart = walks_end (record { tells = refl; stands = refl; grows = omega arith }) (refl, refl) answers apart
+
 -- A loop that reads: where one tree leads to another, what comes of the second comes of the first.
 module _ (told : Bool) (files : Files) where
   pub leads_here : (reads : Reads) → Leads told files reads reads

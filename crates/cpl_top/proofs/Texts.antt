@@ -1,12 +1,8 @@
 -- Words by their bytes.
-use Rattle.std.proofs.Common.{◌≡◌, List, [], ◌∷◌, length, refl, ap, arith, ◌&&◌, Option, None, ℕ, String, string_bytes}
-use Rattle.std.specs.List.{list_all}
+use Rattle.std.proofs.Common.{◌≡◌, List, [], ◌∷◌, length, refl, arith, Option, None, ℕ, String}
 use Rattle.std.specs.declared.alloc.Global.{Global}
-use Rattle.cpl_top.specs.Words.{four_or_six_words, three_words, one_word, is_argument, texts}
-
-pub each_text : (words : List (String Global)) → list_all (λ word. is_argument (string_bytes word)) words ≡ list_all is_argument (texts words)
-each_text [] = refl
-each_text (word ∷ words) = ap (λ b. is_argument (string_bytes word) && b) (each_text words)
+use Rattle.cpl_words.specs.Arguments.{texts}
+use Rattle.cpl_top.specs.Words.{four_or_six_words, four_words, three_words, one_word}
 
 -- words of another count
 pub not_one : {A : Type 0} (f : List ℕ → Option A) (words : List (String Global)) → (length words ≡ 1 → ⊥) → one_word f (texts words) ≡ None
@@ -20,6 +16,14 @@ not_three f (a ∷ []) ne = refl
 not_three f (a ∷ b ∷ []) ne = refl
 not_three f (a ∷ b ∷ c ∷ []) ne = absurd (ne (omega arith))
 not_three f (a ∷ b ∷ c ∷ d ∷ words) ne = refl
+
+pub not_four : {A : Type 0} (f : List ℕ → List ℕ → List ℕ → List ℕ → Option A) (words : List (String Global)) → (length words ≡ 4 → ⊥) → four_words f (texts words) ≡ None
+not_four f [] ne = refl
+not_four f (a ∷ []) ne = refl
+not_four f (a ∷ b ∷ []) ne = refl
+not_four f (a ∷ b ∷ c ∷ []) ne = refl
+not_four f (a ∷ b ∷ c ∷ d ∷ []) ne = absurd (ne (omega arith))
+not_four f (a ∷ b ∷ c ∷ d ∷ e ∷ words) ne = refl
 
 pub not_four_or_six : {A : Type 0} (four : List ℕ → List ℕ → List ℕ → List ℕ → Option A) (six : List ℕ → List ℕ → List ℕ → List ℕ → List ℕ → List ℕ → Option A) (words : List (String Global))
     → (length words ≡ 4 → ⊥) → (length words ≡ 6 → ⊥) → four_or_six_words four six (texts words) ≡ None

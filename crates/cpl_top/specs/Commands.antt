@@ -3,11 +3,14 @@ use Rattle.std.specs.Prelude.{ℕ, List, [], ◌∷◌, codes, Result, Err, Opti
 use Rattle.std.specs.List.{list_all}
 use Rattle.std.specs.Str.{bytes_eq}
 use Rattle.cpl_io.specs.Files.{Files}
-use Rattle.cpl_top.specs.Words.{is_argument}
+use Rattle.cpl_words.specs.Arguments.{is_argument}
 use Rattle.cpl_top.specs.Reads.{Reads, answer_from}
 use Rattle.cpl_top.specs.Check.{check_of}
+use Rattle.cpl_top.specs.Make.{make_of}
 use Rattle.cpl_top.specs.Migrate.{migrate_of}
 use Rattle.cpl_top.specs.Solo.{solo_of}
+use Rattle.cpl_top.specs.Summary.{summary_of}
+use Rattle.cpl_top.specs.Whole.{whole_of}
 use Rattle.cpl_top.specs.declared.output.Reply.{Reply}
 use Rattle.cpl_top.specs.declared.status.Status.{Status}
 use Rattle.cpl_top.specs.declared.status.Status.TheVariants as status
@@ -20,8 +23,9 @@ pub record Command : Type 0 where
 -- the commands that `still_top` serves
 abbrev pub still_commands : List Command
 still_commands =
-    record { name = codes "check"; reads = check_of } ∷ record { name = codes "migrate"; reads = migrate_of }
-    ∷ record { name = codes "solo"; reads = solo_of } ∷ []
+    record { name = codes "check"; reads = check_of } ∷ record { name = codes "make"; reads = make_of }
+    ∷ record { name = codes "migrate"; reads = migrate_of } ∷ record { name = codes "solo"; reads = solo_of }
+    ∷ record { name = codes "summary"; reads = summary_of } ∷ record { name = codes "whole"; reads = whole_of } ∷ []
 
 -- the command of this name among these, with these arguments
 abbrev pub command_named : List Command → List ℕ → List (List ℕ) → Option Reads

@@ -6,9 +6,15 @@ pub mod Reads
 pub mod Inputs
 pub mod Pieces
 pub mod Judging
+pub mod Counts
 pub mod Check
 pub mod Migrate
 pub mod Solo
+pub mod Planned
+pub mod Runs
+pub mod Whole
+pub mod Make
+pub mod Summary
 pub mod Commands
 pub mod Failures
 pub mod Prepared

@@ -3,20 +3,15 @@ use Rattle.std.specs.Prelude.{ℕ, ℤ, List, [], ◌∷◌, ◌++◌, codes, Re
 use Rattle.std.specs.Fmt.{signed_decimal}
 use Rattle.cpl_fixed.specs.Results.{◌>>=◌}
 use Rattle.cpl_gridfile.specs.Reading.{coupled_grid_of}
-use Rattle.cpl_restart.specs.RestartBytes.{second_mark, version_at, whole_of, whole_bytes}
-use Rattle.cpl_restart.specs.declared.start_error.StartError.{StartError}
-use Rattle.cpl_restart.specs.declared.whole.Whole.{Whole}
+use Rattle.cpl_restart.specs.RestartBytes.{whole_of}
 use Rattle.cpl_top.specs.Words.{three_words}
 use Rattle.cpl_top.specs.Judging.{as_grid, as_start}
 use Rattle.cpl_top.specs.Limits.{limit_of}
+use Rattle.cpl_restart.specs.SecondBytes.{second_bytes}
 use Rattle.cpl_top.specs.Reads.{Reads, Ask, End}
 use Rattle.cpl_top.specs.declared.output.Reply.{Reply}
 use Rattle.cpl_top.specs.declared.status.Which.TheVariants as which
 use Rattle.cpl_top.specs.declared.status.Status.{Status}
-
--- the spelling of a state in version 2, which is the version of this mark
-abbrev pub second_bytes : Whole → Result (List ℕ) StartError
-second_bytes whole = version_at second_mark >>= (λ second. Ok (whole_bytes second.0 whole))
 
 -- outputs and line: the bytes of the state, and its elapsed seconds
 abbrev pub migrate_reply : List ℕ → List ℕ → ℤ → Reply
@@ -30,8 +25,7 @@ abbrev pub migrate_answer : List ℕ → List ℕ → List ℕ → Result Reply 
 migrate_answer out grid start = do
   coupled ← as_grid (coupled_grid_of grid)
   whole ← as_start (whole_of coupled start)
-  bytes ← as_start (second_bytes whole)
-  Ok (migrate_reply out bytes whole.elapsed)
+  Ok (migrate_reply out (second_bytes whole) whole.elapsed)
 
 -- inputs: the grid, then the start. All reading comes before all judging
 abbrev pub migrate_reads : List ℕ → List ℕ → List ℕ → Reads

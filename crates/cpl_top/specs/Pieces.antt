@@ -3,7 +3,7 @@ use Rattle.std.specs.Prelude.{ℕ, List, Option}
 use Rattle.std.specs.Option.{option_map, option_and_then}
 use Rattle.cpl_fixed.specs.Ranges.{IsFrom}
 use Rattle.cpl_fixed.specs.declared.limits.TheConstants.{MOST_PIECES}
-use Rattle.cpl_top.specs.Words.{positive_of}
+use Rattle.cpl_words.specs.Arguments.{positive_of}
 use Rattle.cpl_top.specs.declared.pieces.Pieces.{Pieces}
 
 -- 1 to 64 columns, and as many rows

@@ -1,5 +1,5 @@
 -- The command `solo`: the air alone, undivided or in pieces.
-use Rattle.std.specs.Prelude.{ℕ, List, [], ◌∷◌, ◌++◌, codes, decimal, Result, Ok, Option, Some, None}
+use Rattle.std.specs.Prelude.{ℕ, List, [], ◌∷◌, ◌++◌, codes, Result, Ok, Option, Some, None}
 use Rattle.std.specs.Option.{option_map, option_and_then}
 use Rattle.cpl_fixed.specs.Totals.{total_of}
 use Rattle.cpl_fixed.specs.declared.limits.TheConstants.{MOST_STEPS}
@@ -10,7 +10,9 @@ use Rattle.cpl_gridfile.specs.Reading.{air_grid_of}
 use Rattle.cpl_restart.specs.declared.air.Air.{Air}
 use Rattle.cpl_restart.specs.AirBytes.{air_of, air_bytes}
 use Rattle.cpl_restart.specs.Diffusion.{cell_count, air_after}
-use Rattle.cpl_top.specs.Words.{four_or_six_words, number_of}
+use Rattle.cpl_top.specs.Counts.{done_line}
+use Rattle.cpl_words.specs.Arguments.{number_of}
+use Rattle.cpl_top.specs.Words.{four_or_six_words}
 use Rattle.cpl_fixed.specs.Results.{◌>>=◌}
 use Rattle.cpl_top.specs.Judging.{as_grid, as_start, layout, budget}
 use Rattle.cpl_top.specs.Limits.{limit_of}
@@ -25,7 +27,7 @@ use Rattle.cpl_top.specs.declared.status.Status.{Status}
 abbrev pub solo_reply : List ℕ → ℕ → ℕ → Air → Reply
 solo_reply out steps cells air = record {
   outputs = record { which = which.Restart; name = out ++ codes ".restart"; bytes = air_bytes air } ∷ [];
-  line = codes "done " ++ decimal steps ++ codes " " ++ decimal cells ++ codes " 0" ++ 10 ∷ [];
+  line = done_line steps cells 0;
 }
 
 -- the layout, where pieces are asked for

@@ -1,31 +1,22 @@
 // The command `check`: what a grid has.
-ghost use Rattle.std.specs.Prelude.{◌≡◌, IfOk, string_bytes};
+ghost use Rattle.std.specs.Prelude.{◌≡◌, IfOk};
 ghost use Rattle.std.specs.Option.{option_map};
-ghost use Rattle.cpl_gridfile.specs.CoupledGrid.{IsCoupledGrid};
 ghost use Rattle.cpl_top.specs.Causes.{Answers};
-ghost use Rattle.cpl_top.specs.Check.{air_counts, coupled_counts, counts_of, kind_words, check_answer, check_line, check_of, check_reads, check_reply};
+ghost use Rattle.cpl_top.specs.Check.{counts_of, kind_words, check_answer, check_of, check_reads, check_reply};
 ghost use Rattle.cpl_top.specs.Reads.{Runs};
 ghost use Rattle.cpl_top.specs.Replies.{AreApart};
-ghost use Rattle.cpl_top.specs.Words.{texts};
+ghost use Rattle.cpl_words.specs.Arguments.{texts};
 
+use crate::counts::{Counts, Kind, count_air, count_coupled, counts_line};
 use crate::files::read_file;
 use crate::{Reply, Status, Which};
 use cpl_fixed::List;
 use cpl_gridfile::{read_air, take_grid};
 use cpl_io::Shelf;
-use cpl_mosaic::Mesh;
-use cpl_xgrid::{Grid, Surface};
 use std::alloc::{AllocError, Global};
 
 // The first line of a grid for the air alone.
 const AIR_HEAD: &[u8] = b"grid 1 air\n";
-
-/// Whether a grid is for the air alone.
-#[derive(Clone, Copy)]
-pub(crate) enum Kind {
-    Air,
-    Coupled,
-}
 
 impl Kind {
     // The words that the line begins with.
@@ -36,48 +27,6 @@ impl Kind {
             Kind::Air => "grid air",
             Kind::Coupled => "grid coupled",
         }
-    }
-}
-
-/// What a grid has: the cells of its three mosaics, the exchange cells of both lists, and the outlets.
-#[derive(Clone, Copy)]
-pub(crate) struct Counts {
-    kind: Kind,
-    air: u32,
-    land: u32,
-    ocean: u32,
-    exchange: u32,
-    outlets: u32,
-}
-
-// What a grid for the air alone has.
-fn count_air(mesh: &Mesh) -> Counts
-    ensures { result ≡ air_counts mesh.now }
-{
-    Counts {
-        kind: Kind::Air,
-        air: mesh.mosaic.cells(),
-        land: 0,
-        ocean: 0,
-        exchange: 0,
-        outlets: 0,
-    }
-}
-
-// What a coupled grid has.
-fn count_coupled(grid: &Grid) -> Counts
-    requires { IsCoupledGrid grid.now }
-    ensures { result ≡ coupled_counts grid.now }
-{
-    let land_rows = grid.xgrid.rows(Surface::Land).len();
-    let ocean_rows = grid.xgrid.rows(Surface::Ocean).len();
-    Counts {
-        kind: Kind::Coupled,
-        air: grid.air.mosaic.cells(),
-        land: grid.land.mosaic.cells(),
-        ocean: grid.ocean.mosaic.cells(),
-        exchange: (land_rows + ocean_rows) as u32,
-        outlets: grid.xgrid.outlets().len() as u32,
     }
 }
 
@@ -94,26 +43,11 @@ fn count(alloc: Global, bytes: Vec<u8>) -> Result<Counts, Status>
     }
 }
 
-// What is printed after these words.
-fn check_line(alloc: Global, words: &str, counts: &Counts) -> Result<String, AllocError>
-    ensures { IfOk result (λ line. string_bytes line ≡ check_line words.now counts.now) }
-{
-    let Counts {
-        kind: _,
-        air,
-        land,
-        ocean,
-        exchange,
-        outlets,
-    } = *counts;
-    format!(in alloc; "{words} {air} {land} {ocean} {exchange} {outlets}\n")
-}
-
 // What is printed for a grid. No file is written.
 fn check_reply(alloc: Global, counts: &Counts) -> Result<Reply, AllocError>
     ensures { IfOk result (λ reply. reply ≡ check_reply counts.now) }
 {
-    let line = check_line(alloc, counts.kind.words(), counts)?;
+    let line = counts_line(alloc, counts.kind.words(), counts)?;
     Ok(Reply {
         outputs: List::from_vec(Vec::new(alloc)),
         line: List::from_vec(line.into_bytes()),

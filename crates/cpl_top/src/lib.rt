@@ -3,16 +3,20 @@
 
 mod budget;
 mod check;
+mod counts;
 mod delivery;
 mod files;
 mod inputs;
+mod make;
 mod migrate;
 mod output;
 mod pieces;
+mod plan;
 mod solo;
 mod status;
+mod summary;
 mod top;
-mod words;
+mod whole;
 
 pub use output::{FileName, Output, Reply};
 pub use status::{Status, Which};

@@ -5,10 +5,10 @@ ghost use Rattle.cpl_top.specs.Causes.{Answers};
 ghost use Rattle.cpl_top.specs.Migrate.{migrate_answer, migrate_of, migrate_reads, migrate_reply};
 ghost use Rattle.cpl_top.specs.Reads.{Runs};
 ghost use Rattle.cpl_top.specs.Replies.{AreApart};
-ghost use Rattle.cpl_top.specs.Words.{texts};
+ghost use Rattle.cpl_words.specs.Arguments.{texts};
 
 use crate::files::read_file;
-use crate::{FileName, Output, Reply, Status, Which};
+use crate::{Output, Reply, Status, Which};
 use cpl_fixed::List;
 use cpl_gridfile::read_grid;
 use cpl_io::Shelf;
@@ -47,14 +47,9 @@ fn migrate_reply(
 ) -> Result<Reply, AllocError>
     ensures { IfOk result (λ reply. reply ≡ migrate_reply out.now bytes.items whole.now.elapsed) }
 {
-    let name = format!(in alloc; "{out}.restart")?;
-    let line = format!(in alloc; "migrated {}\n", whole.elapsed)?;
     let mut outputs = Vec::new(alloc);
-    outputs.push(Output {
-        which: Which::Restart,
-        name: FileName::new(name),
-        bytes: List::from_vec(bytes),
-    })?;
+    outputs.push(Output::new(alloc, Which::Restart, out, ".restart", bytes)?)?;
+    let line = format!(in alloc; "migrated {}\n", whole.elapsed)?;
     Ok(Reply {
         outputs: List::from_vec(outputs),
         line: List::from_vec(line.into_bytes()),

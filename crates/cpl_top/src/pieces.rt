@@ -5,11 +5,11 @@ ghost use Rattle.cpl_top.specs.Judging.{layout};
 ghost use Rattle.cpl_top.specs.Pieces.{ArePieces, pieces_of};
 
 use crate::Status;
-use crate::words::positive;
 use cpl_fixed::{Component, LayoutError, MOST_PIECES};
 use cpl_layout::Layout;
 use cpl_mosaic::Mosaic;
 use cpl_namelist::NamesError;
+use cpl_words::positive;
 use std::alloc::Global;
 
 /// The columns and rows of pieces that each tile is cut into, 1 to 64 each.

@@ -7,13 +7,13 @@ ghost use Rattle.cpl_top.specs.Pieces.{ArePieces};
 ghost use Rattle.cpl_top.specs.Reads.{Runs};
 ghost use Rattle.cpl_top.specs.Replies.{AreApart};
 ghost use Rattle.cpl_top.specs.Solo.{air_layout, solo_of, solo_reads, solo_answer, solo_reply};
-ghost use Rattle.cpl_top.specs.Words.{texts};
+ghost use Rattle.cpl_words.specs.Arguments.{texts};
 
 use crate::budget::judge_budget;
+use crate::counts::done_line;
 use crate::files::read_file;
 use crate::pieces::{Pieces, judge_layout, pieces_of};
-use crate::words::number;
-use crate::{FileName, Output, Reply, Status, Which};
+use crate::{Output, Reply, Status, Which};
 use cpl_divided::run_divided;
 use cpl_fixed::{Component, List, MOST_STEPS, Quantity};
 use cpl_gridfile::read_air;
@@ -22,6 +22,7 @@ use cpl_layout::Layout;
 use cpl_mosaic::{Mesh, Mosaic};
 use cpl_restart::{Air, decode_air, encode_air};
 use cpl_whole::run_solo;
+use cpl_words::number;
 use std::alloc::{AllocError, Global};
 
 /// The arguments of `solo`.
@@ -77,14 +78,10 @@ fn solo_reply(
 ) -> Result<Reply, AllocError>
     ensures { IfOk result (λ reply. reply ≡ solo_reply words.now.out.now words.now.steps cells air.now) }
 {
-    let name = format!(in alloc; "{}.restart", words.out)?;
-    let line = format!(in alloc; "done {} {} 0\n", words.steps, cells)?;
+    let restart = encode_air(alloc, air)?;
     let mut outputs = Vec::new(alloc);
-    outputs.push(Output {
-        which: Which::Restart,
-        name: FileName::new(name),
-        bytes: List::from_vec(encode_air(alloc, air)?),
-    })?;
+    outputs.push(Output::new(alloc, Which::Restart, words.out, ".restart", restart)?)?;
+    let line = done_line(alloc, words.steps, u64::from(cells), 0)?;
     Ok(Reply {
         outputs: List::from_vec(outputs),
         line: List::from_vec(line.into_bytes()),

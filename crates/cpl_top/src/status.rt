@@ -1,11 +1,12 @@
 // What the program answers.
 ghost use Rattle.std.specs.Prelude.{◌≡◌};
-ghost use Rattle.cpl_top.specs.Judging.{grid_status, start_status};
+ghost use Rattle.cpl_top.specs.Judging.{grid_status, names_status, plan_status, start_status};
 ghost use Rattle.cpl_top.specs.declared.status.Status.TheVariants.{Memory};
 
 use cpl_fixed::{MOST_GRID_BYTES, MOST_NAMES_BYTES, MOST_START_BYTES, Quantity};
 use cpl_gridfile::GridError;
 use cpl_namelist::NamesError;
+use cpl_plan::PlanError;
 use cpl_restart::StartError;
 use std::alloc::AllocError;
 use std::fmt;
@@ -111,6 +112,17 @@ impl From<GridError> for Status {
     }
 }
 
+impl From<NamesError> for Status {
+    ghost from_gives = { λ fault status. status ≡ names_status fault };
+
+    fn from(fault: NamesError) -> Status {
+        match fault {
+            NamesError::Memory => Status::Memory,
+            fault => Status::Names(fault),
+        }
+    }
+}
+
 impl From<StartError> for Status {
     ghost from_gives = { λ fault status. status ≡ start_status fault };
 
@@ -118,6 +130,22 @@ impl From<StartError> for Status {
         match fault {
             StartError::Memory => Status::Memory,
             fault => Status::Start(fault),
+        }
+    }
+}
+
+impl From<PlanError> for Status {
+    ghost from_gives = { λ fault status. status ≡ plan_status fault };
+
+    // Layouts and the date are faults of the namelist.
+    fn from(fault: PlanError) -> Status {
+        match fault {
+            PlanError::Layout(component, fault) => Status::Names(NamesError::Layout(
+                component, fault,
+            )),
+            PlanError::Date(seconds) => Status::Names(NamesError::Date(seconds)),
+            PlanError::Budget(quantity, total) => Status::Budget(quantity, total),
+            PlanError::Memory => Status::Memory,
         }
     }
 }

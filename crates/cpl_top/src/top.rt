@@ -1,7 +1,7 @@
 // The top call.
 ghost use Rattle.std.specs.Prelude.{◌≡◌, ◌≤◌, ◌⊎◌, ◌↔◌, None, IsTrue};
 ghost use Rattle.cpl_io.specs.Causes.{Rose};
-ghost use Rattle.cpl_top.specs.Words.{texts};
+ghost use Rattle.cpl_words.specs.Arguments.{texts};
 ghost use Rattle.cpl_top.specs.Replies.{outputs_of, line_of, status_of};
 ghost use Rattle.cpl_top.specs.Commands.{answer, command_of};
 ghost use Rattle.cpl_top.specs.Leaves.{LeavesFiles, LeavesLine, IsSilent};
@@ -13,11 +13,14 @@ ghost use Rattle.cpl_top.specs.declared.status.Which.{Which};
 
 use crate::check::check;
 use crate::delivery::deliver;
+use crate::make::make;
 use crate::migrate::migrate;
 use crate::solo::solo;
-use crate::words::are_arguments;
+use crate::summary::summary;
+use crate::whole::whole;
 use crate::{Reply, Status};
 use cpl_io::{Shelf, Sink};
+use cpl_words::are_arguments;
 use std::alloc::Global;
 
 // Runs the command that the words are: reads what it asks for, judges it, and computes. Nothing is written yet.
@@ -33,8 +36,11 @@ fn run_command<S: Shelf>(alloc: Global, words: &[String], shelf: &mut S) -> Resu
     };
     match name.as_str() {
         "check" => check(alloc, arguments, shelf),
+        "make" => make(alloc, arguments, shelf),
         "migrate" => migrate(alloc, arguments, shelf),
         "solo" => solo(alloc, arguments, shelf),
+        "summary" => summary(alloc, arguments, shelf),
+        "whole" => whole(alloc, arguments, shelf),
         _ => Err(Status::Usage),
     }
 }

@@ -1,4 +1,4 @@
-use Rattle.cpl_top.specs.Words.{texts}
+use Rattle.cpl_words.specs.Arguments.{texts}
 use Rattle.cpl_top.specs.Commands.{command_of}
 use Rattle.cpl_top.proofs.Walking.{runs_prepared}
 use Rattle.cpl_top.proofs.top.prepare.Goals as goal

@@ -1,5 +1,5 @@
 use Rattle.std.proofs.Common.{ap, Err}
-use Rattle.cpl_top.specs.Words.{texts}
+use Rattle.cpl_words.specs.Arguments.{texts}
 use Rattle.cpl_top.specs.Commands.{command_of}
 use Rattle.cpl_top.proofs.Walking.{refusal_complete, reading_rose}
 use Rattle.cpl_top.proofs.top.still_top.Goals as goal

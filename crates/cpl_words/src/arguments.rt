@@ -1,12 +1,12 @@
-// The words of the command line.
+// The words of a command line, whichever the command.
 ghost use Rattle.std.specs.Prelude.{◌≡◌, ◌≤◌, IfSome, string_bytes};
 ghost use Rattle.std.specs.List.{list_all};
-ghost use Rattle.cpl_top.specs.Words.{is_argument, number_of, positive_of, texts};
+ghost use Rattle.cpl_words.specs.Arguments.{is_argument, number_of, positive_of, texts};
 
 use cpl_fixed::{decimal, is_numeral};
 
 /// The number that a word is, of at most `most`: `0`, or 1 to 20 digits that don't begin with a zero.
-pub(crate) fn number(word: &str, most: u64) -> Option<u64>
+pub fn number(word: &str, most: u64) -> Option<u64>
     ensures value { result ≡ number_of most word.now }
     ensures within { IfSome result (λ n. n ≤ most) }
 {
@@ -19,7 +19,7 @@ pub(crate) fn number(word: &str, most: u64) -> Option<u64>
 }
 
 /// The same from 1.
-pub(crate) fn positive(word: &str, most: u64) -> Option<u64>
+pub fn positive(word: &str, most: u64) -> Option<u64>
     ensures value { result ≡ positive_of most word.now }
     ensures within { IfSome result (λ n. (1 ≤ n) × (n ≤ most)) }
 {
@@ -47,7 +47,7 @@ fn each_is_argument(words: &[String]) -> bool
 }
 
 /// Whether no word is empty or begins with `-`.
-pub(crate) fn are_arguments(words: &[String]) -> bool
+pub fn are_arguments(words: &[String]) -> bool
     ensures { result ≡ list_all is_argument (texts words.now) }
 {
     each_is_argument(words)

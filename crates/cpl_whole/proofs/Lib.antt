@@ -1,0 +1,6 @@
+pub mod Course
+pub mod Holds
+pub mod Tables
+pub mod Words
+pub mod Going
+pub mod Rest

@@ -1,0 +1,4 @@
+pub mod Rows
+pub mod Holdings
+pub mod Exchanges
+pub mod Journeys

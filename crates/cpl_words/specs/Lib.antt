@@ -1,0 +1,4 @@
+pub mod Arguments
+pub mod Words
+pub mod Command
+pub mod Found
