@@ -3,11 +3,11 @@ ghost use Rattle.std.specs.Prelude.{◌≡◌, length, IfOk};
 ghost use Rattle.cpl_field.specs.Crossings.{IsFaceNumber};
 ghost use Rattle.cpl_ocean_tests.specs.Rows.{IsFieldOf, IsLittle, IsOceanOf, IsOfRow};
 
-use crate::sea::rates;
 use cpl_field::Field;
 use cpl_layout::Piece;
 use cpl_mosaic::Side;
 use cpl_ocean::OceanPiece;
+use cpl_samples::example_rates;
 use std::alloc::{AllocError, Global};
 
 /// The greatest amount of a row.
@@ -97,7 +97,7 @@ fn step(piece: &Piece, ocean: &mut OceanPiece)
     ensures area { ocean.new.area ≡ ocean.old.area }
     ensures count { length ocean.new.layers ≡ 1 }
 {
-    let rates = rates();
+    let rates = example_rates();
     ocean.interior(&rates);
     ocean.rim(&rates);
     ocean.finish(&rates);

@@ -1,7 +1,6 @@
 // Runs of an ocean over whole lists, which the tests share.
 ghost use Rattle.std.specs.Prelude.{◌≡◌, ◌⊎◌, ◌*◌, ◌≤◌, pos, length, All, IfOk};
 ghost use Rattle.std.specs.Bool.{OnTrue};
-ghost use Rattle.cpl_fixed.specs.Ranges.{AreRates};
 ghost use Rattle.cpl_restart.specs.CouplingStep.{sea_of};
 ghost use Rattle.cpl_restart.specs.Diffusion.{AreAmounts};
 ghost use Rattle.cpl_restart.specs.States.{layers, ocean_cells};
@@ -13,58 +12,18 @@ ghost use Rattle.cpl_ocean_tests.specs.Small.{IsWet};
 
 use crate::shapes::{Shape, grid};
 use cpl_faces::faces;
-use cpl_fixed::{List, Rates};
+use cpl_fixed::List;
 use cpl_restart::Whole;
+use cpl_samples::{are_amounts, example_rates};
 use cpl_sea::{SeaRoom, sea_law};
 use cpl_xgrid::Grid;
 use std::alloc::{AllocError, Global};
-
-/// The greatest total of a run.
-const MOST: i64 = 4611686018427387903;
 
 /// The greatest number of a face.
 const MOST_FACE: i64 = 1 << 40;
 
 /// Water, heat and salt of an ocean's cells, layer after layer.
 pub(crate) type Sea = [&'static [i64]; 3];
-
-/// Rates with the slope 8 and the mix 4.
-pub(crate) fn rates() -> Rates
-    ensures { AreRates result }
-{
-    Rates {
-        ca: 10,
-        kh: 1024,
-        ke: 65536,
-        hs: 1000,
-        ko: 1024,
-        rc: 0,
-        month: [1000; 12],
-        cl: 10,
-        cap: 10,
-        land_albedo: 200,
-        h0: 100,
-        bounds: [10, 20, 40, 80],
-        ice_albedo: 600,
-        water_albedo: 100,
-        slope: 8,
-        mix: 4,
-    }
-}
-
-// Whether none of these is negative, and their total within the budget.
-fn are_amounts(amounts: &[i64]) -> bool
-    ensures { OnTrue result (AreAmounts (length amounts.now) amounts.now) }
-{
-    let mut total = 0;
-    for x in amounts {
-        if *x < 0 || *x > MOST - total {
-            return false;
-        }
-        total += *x;
-    }
-    true
-}
 
 // These numbers as a list, where they are amounts, so many for each cell of the ocean. Others count as no memory.
 fn amounts(
@@ -185,7 +144,7 @@ fn go(grid: &Grid, steps: u32, ends: bool, whole: &mut Whole, room: &mut SeaRoom
 {
     sea_law();
     for _n in 0..steps {
-        room.step(grid, &rates(), whole);
+        room.step(grid, &example_rates(), whole);
     }
     if ends {
         room.cut(grid, whole);

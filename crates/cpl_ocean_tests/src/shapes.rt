@@ -1,12 +1,11 @@
 // Oceans of few cells that the tests share, made by functions that look before they ask.
 ghost use Rattle.std.specs.Prelude.{All, length, IfOk, ◌≤◌};
 ghost use Rattle.std.specs.Bool.{OnTrue};
-ghost use Rattle.cpl_mosaic.specs.Contacts.{AreTiles};
 ghost use Rattle.cpl_xgrid.specs.Lists.{IsArea, IsColumn, IsMesh};
-ghost use Rattle.cpl_ocean_tests.specs.Small.{IsSmall};
 
 use cpl_fixed::{List, MOST_AREA};
 use cpl_mosaic::{Contact, Mesh, Mosaic, Tile};
+use cpl_samples::are_small_tiles;
 use cpl_xgrid::{Column, Grid, XGrid};
 use std::alloc::{AllocError, Global};
 
@@ -17,22 +16,6 @@ pub(crate) struct Shape {
     pub(crate) contacts: &'static [Contact],
     pub(crate) area: &'static [i64],
     pub(crate) layers: u32,
-}
-
-fn are_small(tiles: &[Tile]) -> bool
-    ensures { OnTrue result (All IsSmall tiles.now) }
-{
-    tiles.iter().all(|tile| tile.nx > 0 && tile.nx <= 64 && tile.ny > 0 && tile.ny <= 64)
-}
-
-// Whether there are 1 to 16 tiles, each of at most 64 by 64 cells.
-fn are_tiles(tiles: &[Tile]) -> bool
-    ensures { OnTrue result (AreTiles tiles.now) }
-{
-    if tiles.is_empty() || tiles.len() > 16 {
-        return false;
-    }
-    are_small(tiles)
 }
 
 fn are_areas(area: &[i64]) -> bool
@@ -50,7 +33,7 @@ fn mesh(
 ) -> Result<Mesh, AllocError>
     ensures { IfOk result IsMesh }
 {
-    if !are_tiles(tiles) || contacts.len() > 256 {
+    if !are_small_tiles(tiles) || contacts.len() > 256 {
         return Err(AllocError);
     }
     let Ok(mosaic) = Mosaic::new(alloc, tiles, contacts) else {

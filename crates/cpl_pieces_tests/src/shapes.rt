@@ -1,10 +1,10 @@
 // Mosaics that the tests share, and calls that look before they ask.
 ghost use Rattle.std.specs.Bool.{OnTrue};
-ghost use Rattle.cpl_mosaic.specs.Contacts.{AreTiles};
 ghost use Rattle.cpl_mosaic.specs.Sides.{IsCellOf};
 
 use cpl_mosaic::Side::{E, N, S, W};
 use cpl_mosaic::{CellId, Contact, Mosaic, MosaicError, Side, Span, Tile};
+use cpl_samples::are_small_tiles;
 use std::alloc::Global;
 
 /// A contact as its line in a grid text has it: two ranges, each by tile, side and ends, and whether it is flipped.
@@ -44,21 +44,6 @@ pub(crate) const ONE_CELL: Shape = (&[(1, 1)], &[RING]);
 /// The cubed sphere of 2 by 2 cells a tile.
 pub(crate) const SPHERE: Shape = (&[(2, 2); 6], &CUBE);
 
-/// Whether there are 1 to 16 tiles, each of at most 64 by 64 cells.
-fn are_small(tiles: &[Tile]) -> bool
-    ensures { OnTrue result (AreTiles tiles.now) }
-{
-    if tiles.is_empty() || tiles.len() > 16 {
-        return false;
-    }
-    for tile in tiles {
-        if tile.nx == 0 || tile.nx > 64 || tile.ny == 0 || tile.ny > 64 {
-            return false;
-        }
-    }
-    true
-}
-
 fn span((tile, side, lo, hi): (u32, Side, u32, u32)) -> Span {
     Span { tile, side, lo, hi }
 }
@@ -80,7 +65,7 @@ pub(crate) fn make(
             flip: *flip,
         })
         .collect(alloc)?;
-    if !are_small(&tiles) || contacts.len() > 256 {
+    if !are_small_tiles(&tiles) || contacts.len() > 256 {
         return Err(MosaicError::Memory);
     }
     Mosaic::new(alloc, &tiles, &contacts)

@@ -3,10 +3,10 @@ ghost use Rattle.std.specs.Prelude.{◌≡◌, ◌+ℤ◌, ◌≤ℤ◌, pos, []
 ghost use Rattle.cpl_ice.specs.Cells.{IsAmount, IsIceCell, HasNoFlight};
 ghost use Rattle.cpl_ice.specs.Slow.{heat_of, water_of};
 
-use crate::rates::example;
 use cpl_fixed::{Gain, share};
 use cpl_ice::{IceCell, NOTHING, Salty, ToIce};
 use cpl_land::LandCell;
+use cpl_samples::example_rates;
 
 // A cell of area 12 with one category, and with neither frazil nor skin.
 fn one_category(water: i64, part: i64, ice: i64, heat: i64) -> IceCell
@@ -45,7 +45,7 @@ fn land_gains_and_runs_off(rt: HostRuntime) {
         water: 5,
     });
     // 50 of water stand above 4 * 10, with 10 * 1426 of heat.
-    let runoff = cell.slow(&example());
+    let runoff = cell.slow(&example_rates());
     assert_eq!(rt; (runoff.water, runoff.heat), (10, 14_260));
     assert_eq!(rt; (cell.water, cell.heat), (40, 57_040));
     // Outlets of weights 1 and 2: a third rounded down, and what it leaves.
@@ -58,13 +58,13 @@ fn ice_melts(rt: HostRuntime) {
     let nothing = Gain { heat: 0, water: 0 };
     // 334 of heat above 10 * 1092 melt one unit.
     let mut cell = one_category(60_000, 5_536, 10, 11_254);
-    let back = cell.slow(&example(), nothing);
+    let back = cell.slow(&example_rates(), nothing);
     assert_eq!(rt; (back.water, back.heat, back.salt), (1, 1_426, 0));
     assert_eq!(rt; (cell.ice[0], cell.heat[0]), (9, 9_828));
     assert_eq!(rt; (cell.parts[0], cell.parts[1]), (60_000, 5_536));
     // 3340 of heat above it melt all, and the part becomes open water.
     let mut cell = one_category(60_000, 5_536, 10, 14_260);
-    let back = cell.slow(&example(), nothing);
+    let back = cell.slow(&example_rates(), nothing);
     assert_eq!(rt; (back.water, back.heat, back.salt), (10, 14_260, 0));
     assert_eq!(rt; (cell.ice[0], cell.heat[0]), (0, 0));
     assert_eq!(rt; (cell.parts[0], cell.parts[1]), (65_536, 0));
@@ -105,7 +105,7 @@ fn ice_freezes_and_ridges(rt: HostRuntime) {
         heat: 14_260,
         water: 10,
     };
-    let back = cell.slow(&example(), runoff);
+    let back = cell.slow(&example_rates(), runoff);
     // The skin leaves with the runoff, and nothing melts.
     assert_eq!(rt; (back.water, back.heat, back.salt), (110, 156_860, 10));
     // 8 of frazil close 8 * 65536 / 1600 of the open water, 327. Category 1 has 138 then, above 10 * 16 * 16711 / 65536, and joins

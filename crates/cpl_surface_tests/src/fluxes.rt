@@ -3,9 +3,10 @@ ghost use Rattle.std.specs.Prelude.{◌≡◌, pos};
 ghost use Rattle.cpl_fixed.specs.Ranges.{AreRates};
 ghost use Rattle.cpl_flux.specs.Elements.{IsAirSide, IsPart, IsElement};
 
-use crate::rates::{example, strong};
+use crate::rates::strong;
 use cpl_fixed::Rates;
 use cpl_flux::{AirSide, Kind, Part, element};
+use cpl_samples::example_rates;
 use std::process::Abort;
 
 /// The area of the largest cell.
@@ -46,7 +47,7 @@ fn elements_of_one_column(rt: HostRuntime) {
     // The air has 280000 millikelvin, the land 273000: 1024 * 4 * 7000 / 2^20 is 27.3. There is no water.
     gives(
         &rt,
-        &example(),
+        &example_rates(),
         warm,
         part(Kind::Land, 10_920, 0, 4),
         4,
@@ -56,7 +57,7 @@ fn elements_of_one_column(rt: HostRuntime) {
     // of the water 12.5, and what an eighth of the heat carries off 142600 / 8 / 3926, which is 4.5.
     gives(
         &rt,
-        &example(),
+        &example_rates(),
         warm,
         part(Kind::Water, 142_600, 100, 12),
         12,
@@ -65,14 +66,21 @@ fn elements_of_one_column(rt: HostRuntime) {
     // Ice with the same temperature gives no water.
     gives(
         &rt,
-        &example(),
+        &example_rates(),
         warm,
         part(Kind::Ice, 109_200, 100, 12),
         12,
         (82, 0),
     );
     // An element of area 0, also of a part without area.
-    gives(&rt, &example(), warm, part(Kind::Ice, 0, 0, 0), 0, (0, 0));
+    gives(
+        &rt,
+        &example_rates(),
+        warm,
+        part(Kind::Ice, 0, 0, 0),
+        0,
+        (0, 0),
+    );
 }
 
 // Products above 64 bits. The expected numbers are exact quotients of them.

@@ -9,11 +9,9 @@ use cpl_fixed::List;
 use cpl_layout::Layout;
 use cpl_mosaic::{Contact, Mesh, Mosaic, Tile};
 use cpl_restart::Air;
+use cpl_samples::are_amounts;
 use cpl_whole::run_solo;
 use std::alloc::{AllocError, Global};
-
-/// The greatest total of a run, and the greatest area of a cell.
-const MOST: i64 = 4611686018427387903;
 
 const MOST_AREA: i64 = 1099511627776;
 
@@ -32,20 +30,6 @@ fn are_areas(area: &[i64]) -> bool
         if *a <= 0 || *a > MOST_AREA {
             return false;
         }
-    }
-    true
-}
-
-/// Whether none of these is negative, and their total within the budget.
-fn are_amounts(amounts: &[i64]) -> bool
-    ensures { OnTrue result (AreAmounts (length amounts.now) amounts.now) }
-{
-    let mut total = 0;
-    for x in amounts {
-        if *x < 0 || *x > MOST - total {
-            return false;
-        }
-        total += *x;
     }
     true
 }

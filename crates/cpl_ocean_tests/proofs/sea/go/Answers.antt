@@ -13,6 +13,6 @@ loop-n-preserved c =
       room = c.step.ensures.room;
       sea =
           subst (λ (whole : Whole). IsSea grid.ocean (layers grid) (sea_of whole)) (sym c.step.ensures.whole)
-          (c.sea_law.ensures.kept grid.ocean (layers grid) c.rates.result (sea_of c.loop-n.whole) before.room.ocean before.sea c.rates.ensures.mix.0);
+          (c.sea_law.ensures.kept grid.ocean (layers grid) c.example_rates.result (sea_of c.loop-n.whole) before.room.ocean before.sea c.example_rates.ensures.mix.0);
       to_ice = subst (λ (whole : Whole). length whole.to_ice ≡ 5 * ocean_cells grid) (sym c.step.ensures.whole) before.to_ice;
     }

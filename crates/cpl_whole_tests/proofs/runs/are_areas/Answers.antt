@@ -3,7 +3,7 @@ use mir.Val.{SFits}
 use mir.Syntax.{w64}
 use Rattle.std.proofs.lemmas.Int.{ints}
 use Rattle.cpl_restart.specs.Diffusion.{IsAirArea}
-use Rattle.cpl_whole_tests.proofs.Lists.{each_more}
+use Rattle.cpl_samples.proofs.Lists.{each_more}
 use Rattle.cpl_whole_tests.proofs.runs.are_areas.Goals as goal
 
 pub loop-a-preserved : goal.loop-a-preserved

@@ -1,7 +1,7 @@
 use Rattle.std.proofs.Common.{◌≡◌, ℕ, ◌<◌, get_or, take, pos}
 use Rattle.std.specs.Prelude.{ℤ, ◌≤ℤ◌}
 use Rattle.cpl_restart.specs.Diffusion.{total_of}
-use Rattle.cpl_ocean_tests.proofs.sea.are_amounts.Given as goal
+use Rattle.cpl_samples.proofs.amounts.are_amounts.Given as goal
 
 abbrev pub invariant-loop-x : goal.invariant-loop-x
 invariant-loop-x l = record {

@@ -4,7 +4,7 @@ use Rattle.std.specs.Prelude.{All}
 use Rattle.std.proofs.lemmas.Nat.{mul-le}
 use Rattle.cpl_mosaic.specs.declared.parts.Tile.{Tile}
 use Rattle.cpl_mosaic.specs.Contacts.{AreTiles, cells_of}
-use Rattle.cpl_ocean_tests.specs.Small.{IsSmall}
+use Rattle.cpl_samples.specs.Small.{IsSmall}
 
 few_cells : (tiles : List Tile) → All IsSmall tiles → cells_of tiles ≤ 4096 * length tiles
 few_cells [] small = omega arith

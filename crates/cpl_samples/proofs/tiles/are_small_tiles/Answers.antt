@@ -1,7 +1,7 @@
 use Rattle.std.proofs.Common.{sym, arith, length}
 use Rattle.std.proofs.lemmas.Bool.{eqb-false}
-use Rattle.cpl_pieces_tests.proofs.Sizes.{small_tiles}
-use Rattle.cpl_pieces_tests.proofs.shapes.are_small.Goals as goal
+use Rattle.cpl_samples.proofs.Sizes.{small_tiles}
+use Rattle.cpl_samples.proofs.tiles.are_small_tiles.Goals as goal
 
 pub returns : goal.returns
 returns c =
