@@ -109,9 +109,6 @@ month_is names whole month stored e =
     e ∙ ap (λ (x : ℤ). (civil_after names.start (unsigned_abs x)).1) same
 
 module _ (grid : Grid) (names : Names) (whole : Whole) (can : CanCoupleOn grid names whole) (month : ℕ) (mid : Mid) (in_month : month ≡ month_of names whole) (is_taken : mid ≡ taken grid whole) where
-  pub taken_is : IsWhole grid mid.whole
-  taken_is = subst (λ (m : Mid). IsWhole grid m.whole) (sym is_taken) (keeps grid names whole can).surface.start.whole
-
   pub fast_can : (i : ℕ) → i < names.fast → CanStep (before grid names month (fast_by i grid names month mid))
   fast_can i l =
       let own = (keeps grid names whole can).surface.can_fast i l in

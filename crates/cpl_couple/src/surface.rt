@@ -16,11 +16,11 @@ use cpl_restart::Mid;
 use cpl_slow::{SlowRoom, slow_step, take_flights};
 use cpl_xgrid::Grid;
 
-// The fast steps of a coupling step, in a room in which the areas of the state stand: what they moved together.
+// The fast steps of a coupling step, in a room in which the areas of the state and the sun stand: what they moved together.
 fn go_fast(grid: &Grid, names: &Names, month: u32, mid: &mut Mid, room: &mut FastRoom) -> FastTally
     requires can { (i : ℕ) → i < names.now.fast → CanStep (before grid.now names.now month (fast_by i grid.now names.now month mid.old)) }
     requires range { (i : ℕ) → i ≤ names.now.fast → IsInRange (fast_sums i grid.now names.now month mid.old) }
-    requires room { IsDivided grid.now mid.old.whole room.old }
+    requires room { IsDivided (before grid.now names.now month mid.old) room.old }
     ensures value { mid.new ≡ fast_by names.now.fast grid.now names.now month mid.old }
     ensures tally { result ≡ fast_sums names.now.fast grid.now names.now month mid.old }
     ensures room { IsFastRoom grid.now room.new }
@@ -55,7 +55,7 @@ pub(crate) fn go_surface(
 {
     let month = names.month_of(mid.whole.elapsed);
     take_flights(grid, mid, slow);
-    fast.divide(grid, &mid.whole);
+    fast.divide(grid, &names.rates, month, mid);
     let moved = go_fast(grid, names, month, mid, fast);
     let drained = slow_step(grid, &names.rates, mid, slow);
     SurfaceTally {

@@ -54,9 +54,6 @@ some_element grid Ocean = omega arith
 module _ (grid : Grid) (is : IsNumbered grid) (whole : Whole) (lawful : IsWhole grid whole) where
   -- THE LAND
 
-  pub land_ranges : (rows : List XRow) → rows ≡ grid.xgrid.land_rows → All (λ (row : XRow). IsArea row.area) rows
-  land_ranges rows e = subst (λ (r : List XRow). All (λ (row : XRow). IsArea row.area) r) (sym e) is.rules.rows.land
-
   pub land_divided : (rows : List XRow) (areas : List ℤ) → rows ≡ grid.xgrid.land_rows → length areas ≡ length grid.xgrid.land_rows → AreOfRows rows areas → AreElementAreas grid whole Land areas
   land_divided rows areas e count value = land_areas_are grid is whole lawful areas count (subst (λ (r : List XRow). AreOfRows r areas) e value)
 

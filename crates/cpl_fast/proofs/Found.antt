@@ -9,8 +9,8 @@ use Rattle.cpl_flux.specs.Temperatures.{weather}
 use Rattle.cpl_xgrid.specs.declared.parts.Surface.{Surface}
 use Rattle.cpl_xgrid.specs.Rows.{rows_of}
 use Rattle.cpl_restart.specs.States.{air_side}
-use Rattle.cpl_restart.specs.Elements.{air_number, surface_number, element_count, element_area, areas_in, area_before, share_at}
-use Rattle.cpl_restart.specs.FastStep.{Before, albedo, flux, heat_down, water_up, absorbed, surface_part, sun_on}
+use Rattle.cpl_restart.specs.Elements.{air_number, surface_number, element_count, element_area, areas_in, area_before}
+use Rattle.cpl_restart.specs.FastStep.{Before, flux, heat_down, water_up, absorbed, surface_part}
 use Rattle.cpl_restart.specs.FastLaws.{CanStep, IsPlaced}
 use Rattle.cpl_diffusion.proofs.Sums.{sum_to, total_range}
 use Rattle.cpl_laws.specs.Once.{IsNumbered}
@@ -21,18 +21,46 @@ use Rattle.cpl_fast.specs.declared.flows.Tables.{Tables}
 use Rattle.cpl_fast.specs.declared.flows.WarmPart.{WarmPart}
 use Rattle.cpl_fast.specs.Flows.{area_in, before_in, flow_in, flow_through, part_in, sky_at, sky_of, warm_at}
 use Rattle.cpl_fast.specs.Places.{place_in}
-use Rattle.cpl_fast.specs.Tables.{warm_part}
-use Rattle.cpl_fast.specs.Filled.{AreTables, AreSkies}
+use Rattle.cpl_fast.specs.Tables.{AreLinks, warm_part}
+use Rattle.cpl_fast.specs.Filled.{AreElementAreas, AreTables, AreSkies}
 use Rattle.cpl_fast.proofs.Nothing.{nothing_through, zero_or_not}
+
+-- the area of an element, and the areas before it
+module _ (s : Before) (list : Surface) (tables : Tables) (width : tables.width ≡ element_count s.grid list) (links : AreLinks s.grid list tables.links.items)
+    (are : AreElementAreas s.grid s.mid.whole list tables.areas.items) (is : IsNumbered s.grid) (can : CanStep s) (m : ℕ) (l : m < length (rows_of s.grid.xgrid list)) where
+  pub area_by : (k : ℕ) → k < element_count s.grid list → area_in tables m k ≡ element_area s.grid s.mid.whole (record { list = list; row = m }) k
+  area_by k h = ap (λ (w : ℕ). at tables.areas.items (m * w + k)) width ∙ are.each m k l h
+
+  so_far : (k : ℕ) → k ≤ element_count s.grid list → sum_to (area_in tables m) k ≡ total_of (take k (areas_in s.grid s.mid.whole (record { list = list; row = m })))
+  so_far zero h = refl
+  so_far (suc k) h =
+      let areas = areas_in s.grid s.mid.whole (record { list = list; row = m }) in
+      let count = (areas_are s.grid is s.mid.whole can.mid.whole list m l).count in
+      let before = so_far k (omega arith) in
+      let own = area_by k (omega arith) in
+      let e : k + 1 ≡ suc k = omega arith in
+      let more = ap (λ (n : ℕ). total_of (take n areas)) (sym e) ∙ total_more areas k (omega arith) in
+      omega (arith, ints, before, own, more)
+
+  pub before_by : (k : ℕ) → k < element_count s.grid list → before_in tables m k ≡ area_before s.grid s.mid.whole (record { list = list; row = m }) k
+  unfolding area_before
+  before_by k h =
+      let start = (links.each m l).before in
+      let sum = total_range (area_in tables m) k ∙ so_far k (omega arith) in
+      λ i. start i +ℤ sum i
 
 module _ (s : Before) (list : Surface) (tables : Tables) (skies : List Sky) (are : AreTables s list tables) (seen : AreSkies s skies)
     (is : IsNumbered s.grid) (can : CanStep s) (m k : ℕ) (l : m < length (rows_of s.grid.xgrid list)) (h : k < element_count s.grid list) where
   -- its area
   pub area_found : area_in tables m k ≡ element_area s.grid s.mid.whole (record { list = list; row = m }) k
-  area_found = ap (λ (w : ℕ). at tables.areas.items (m * w + k)) are.width ∙ are.areas.each m k l h
+  area_found = area_by s list tables are.width are.links are.areas is can m l k h
+
+  -- the areas before it
+  pub before_found : before_in tables m k ≡ area_before s.grid s.mid.whole (record { list = list; row = m }) k
+  before_found = before_by s list tables are.width are.links are.areas is can m l k h
 
   -- its sky
-  pub sky_found : sky_of skies tables m ≡ record { air = air_side s.grid s.mid.whole (air_number s.grid (record { list = list; row = m })); weather = weather s.rates (air_side s.grid s.mid.whole (air_number s.grid (record { list = list; row = m }))); sun = sun_on s (air_number s.grid (record { list = list; row = m })) }
+  pub sky_found : sky_of skies tables m ≡ record { air = air_side s.grid s.mid.whole (air_number s.grid (record { list = list; row = m })); weather = weather s.rates (air_side s.grid s.mid.whole (air_number s.grid (record { list = list; row = m }))) }
   sky_found = ap (sky_at skies) (are.links.each m l).air ∙ seen.each (air_number s.grid (record { list = list; row = m })) (air_below s.grid is list m l)
 
   -- its part, which has an area
@@ -41,26 +69,6 @@ module _ (s : Before) (list : Surface) (tables : Tables) (skies : List Sky) (are
   part_found some =
       (λ i. warm_at tables.parts.items (place_in (are.cells i) ((are.links.each m l).surface i) k))
       ∙ are.parts (surface_number s.grid (record { list = list; row = m })) k (surface_below s.grid is list m l) h some
-
--- the areas before an element
-module _ (s : Before) (list : Surface) (tables : Tables) (are : AreTables s list tables) (is : IsNumbered s.grid) (can : CanStep s) (m : ℕ) (l : m < length (rows_of s.grid.xgrid list)) where
-  so_far : (k : ℕ) → k ≤ element_count s.grid list → sum_to (area_in tables m) k ≡ total_of (take k (areas_in s.grid s.mid.whole (record { list = list; row = m })))
-  so_far zero h = refl
-  so_far (suc k) h =
-      let areas = areas_in s.grid s.mid.whole (record { list = list; row = m }) in
-      let count = (areas_are s.grid is s.mid.whole can.mid.whole list m l).count in
-      let before = so_far k (omega arith) in
-      let own = ap (λ (w : ℕ). at tables.areas.items (m * w + k)) are.width ∙ are.areas.each m k l (omega arith) in
-      let e : k + 1 ≡ suc k = omega arith in
-      let more = ap (λ (n : ℕ). total_of (take n areas)) (sym e) ∙ total_more areas k (omega arith) in
-      omega (arith, ints, before, own, more)
-
-  pub before_found : (k : ℕ) → k < element_count s.grid list → before_in tables m k ≡ area_before s.grid s.mid.whole (record { list = list; row = m }) k
-  unfolding area_before
-  before_found k h =
-      let start = (are.links.each m l).before in
-      let sum = total_range (area_in tables m) k ∙ so_far k (omega arith) in
-      λ i. start i +ℤ sum i
 
 -- what flows through an element by its table
 module _ (s : Before) (list : Surface) (tables : Tables) (skies : List Sky) (are : AreTables s list tables) (seen : AreSkies s skies)
@@ -78,20 +86,19 @@ module _ (s : Before) (list : Surface) (tables : Tables) (skies : List Sky) (are
       some (omega (arith, ints, area, least, most, e))
 
   -- what flows is the same with its part, which stands in the table where the element has an area
-  with_part : (sky : Sky) (albedo from : ℤ) → flow_through s.rates sky (part_in tables m k) albedo (area_in tables m k) from ≡ flow_through s.rates sky surface albedo (area_in tables m k) from
-  with_part sky albedo from = elim (zero_or_not (area_in tables m k)) [
+  with_part : (sky : Sky) (sun : ℤ) → flow_through s.rates sky (part_in tables m k) (area_in tables m k) sun ≡ flow_through s.rates sky surface (area_in tables m k) sun
+  with_part sky sun = elim (zero_or_not (area_in tables m k)) [
     | inl e ↦
-        (λ i. flow_through s.rates sky (part_in tables m k) albedo (e i) from) ∙ nothing_through s.rates sky (part_in tables m k) albedo from
-        ∙ sym (nothing_through s.rates sky surface albedo from) ∙ (λ i. flow_through s.rates sky surface albedo (sym e i) from)
-    | inr some ↦ (λ i. flow_through s.rates sky (part_found s list tables skies are seen is can m k l h (some_part some) i) albedo (area_in tables m k) from)
+        (λ i. flow_through s.rates sky (part_in tables m k) (e i) sun) ∙ nothing_through s.rates sky (part_in tables m k) sun
+        ∙ sym (nothing_through s.rates sky surface sun) ∙ (λ i. flow_through s.rates sky surface (sym e i) sun)
+    | inr some ↦ (λ i. flow_through s.rates sky (part_found s list tables skies are seen is can m k l h (some_part some) i) (area_in tables m k) sun)
   ]
 
-  pub flow_found : flow_in s.rates list (sky_of skies tables m) tables m k
+  pub flow_found : (sun : ℤ) → sun ≡ absorbed s (record { list = list; row = m }) k → flow_in s.rates (sky_of skies tables m) tables m k sun
       ≡ record { heat = heat_down s (record { list = list; row = m }) k; water = water_up s (record { list = list; row = m }) k; sun = absorbed s (record { list = list; row = m }) k; rain = pos 0 }
-  unfolding flow_in flux absorbed share_at
-  flow_found =
+  unfolding flow_in flux
+  flow_found sun stands =
       let sky = sky_found s list tables skies are seen is can m k l h in
       let area = area_found s list tables skies are seen is can m k l h in
-      let before = before_found s list tables are is can m l k h in
-      with_part (sky_of skies tables m) (albedo s.rates list k) (before_in tables m k)
-      ∙ (λ i. flow_through s.rates (sky i) surface (albedo s.rates list k) (area i) (before i))
+      with_part (sky_of skies tables m) sun
+      ∙ (λ i. flow_through s.rates (sky i) surface (area i) (stands i))

@@ -13,9 +13,11 @@ pub mod InRange
 pub mod Elementwise
 pub mod ToAir
 pub mod ToFlows
+pub mod ToSuns
 pub mod AfterStep
 pub mod Keeping
 pub mod Dividing
 pub mod Looking
 pub mod ToSurface
 pub mod Empty
+pub mod Taking

@@ -1,5 +1,5 @@
 -- The links of rows, one after another.
-use Rattle.std.proofs.Common.{◌≡◌, ◌∙◌, refl, sym, ap, subst, Bool, true, false, cond, ℕ, suc, ◌+◌, ◌<◌, ◌++◌, arith, below_more, inl, inr, eq-eqb, List, [], ◌∷◌, map, length, take}
+use Rattle.std.proofs.Common.{◌≡◌, ◌∙◌, sym, ap, subst, Bool, true, false, cond, ℕ, suc, ◌+◌, ◌<◌, ◌++◌, arith, below_more, inl, inr, eq-eqb, List, [], ◌∷◌, map, length, take}
 use Rattle.std.specs.Prelude.{ℤ, pos, ◌+ℤ◌, ◌≤ℤ◌, slice_set, All}
 use Rattle.std.proofs.lemmas.Int.{ints}
 use Rattle.std.proofs.lemmas.Bool.{cases_eq, ne_eqb}
@@ -28,10 +28,6 @@ cells_at tiles key rows n l are =
     subst (IsCellOf tiles) (get_or-map key rows n no_row none l) (are n none (omega arith))
 
 module _ (air tiles : List Tile) (rows : List XRow) (old : List ℤ) (can : CanLink air tiles rows old) (agree : NumbersAgree air) where
-  -- no row yet
-  pub linked_none : AreLinked air tiles rows 0 old [] old
-  linked_none = record { count = refl; each = λ m h. absurd (omega arith); cells = refl; areas = λ c h. omega (arith, ints) }
-
   module _ (n : ℕ) (l : n < length rows) (links : List Link) (new : List ℤ) (are : AreLinked air tiles rows n old links new) where
     abbrev here : CellId
     here = (row_in rows n).air
@@ -102,7 +98,3 @@ module _ (air tiles : List Tile) (rows : List XRow) (old : List ℤ) (can : CanL
           cells = length-set new (number_of air (row_in rows n).air) _ ∙ are.cells;
           areas = more_area;
         })
-
-  -- all rows
-  pub linked_all : (n : ℕ) (links : List Link) (new : List ℤ) → n ≡ length rows → AreLinked air tiles rows n old links new → AreLinked air tiles rows (length rows) old links new
-  linked_all n links new e are = subst (λ (k : ℕ). AreLinked air tiles rows k old links new) e are

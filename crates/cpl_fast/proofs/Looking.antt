@@ -1,14 +1,7 @@
 -- What a fast step sees of a state: the numbers of its cells and parts as they stand in lists.
-use Rattle.std.proofs.Common.{◌≡◌, ◌∙◌, sym, ap, subst, ℕ, zero, suc, ◌+◌, ◌-◌, ◌*◌, ◌<◌, arith, inl, inr, List, length, w64, to_z, of_z}
-use Rattle.std.specs.Prelude.{ℤ, pos, ◌≤ℤ◌}
-use Rattle.std.proofs.lemmas.Int.{ints}
-use Rattle.std.proofs.lemmas.Bool.{cases_lt}
-use Rattle.std.proofs.lemmas.List.{get_or_past}
-use Rattle.std.proofs.lemmas.List.Elements.{All-from_recursion}
-use Rattle.cpl_fixed.specs.Ranges.{AreRates, IsFromℤ}
-use Rattle.cpl_fixed.specs.declared.rates.Rates.{Rates}
-use Rattle.cpl_fixed.specs.Amounts.{IsAmount, at}
-use Rattle.cpl_fixed.specs.Shares.{part_of}
+use Rattle.std.proofs.Common.{◌≡◌, ◌∙◌, sym, ap, subst, ℕ, zero, suc, ◌+◌, ◌*◌, ◌<◌, arith, List, length}
+use Rattle.std.specs.Prelude.{ℤ}
+use Rattle.cpl_fixed.specs.Amounts.{at}
 use Rattle.cpl_flux.specs.declared.parts.Kind.TheVariants as kind
 use Rattle.cpl_flux.specs.declared.parts.Part.{Part}
 use Rattle.cpl_flux.specs.Elements.{IsAirSide, IsPart}
@@ -16,11 +9,9 @@ use Rattle.cpl_mosaic.specs.Mates.{MatesAgree}
 use Rattle.cpl_xgrid.specs.declared.parts.Surface.TheVariants.{Land, Ocean}
 use Rattle.cpl_restart.specs.States.{air_cells, air_side, categories, land_cells, ocean_cells, of_cell, part_count}
 use Rattle.cpl_restart.specs.Elements.{part_area}
-use Rattle.cpl_restart.specs.FastStep.{Before, surface_part, sun_on}
+use Rattle.cpl_restart.specs.FastStep.{Before, surface_part}
 use Rattle.cpl_restart.specs.FastLaws.{CanStep}
 use Rattle.cpl_laws.specs.Once.{IsNumbered}
-use Rattle.cpl_laws.proofs.Flows.{strength_least}
-use Rattle.cpl_laws.proofs.FastKept.{keeps_all}
 use Rattle.cpl_fast.specs.declared.flows.Sky.{Sky}
 use Rattle.cpl_fast.specs.declared.flows.Tables.{Tables}
 use Rattle.cpl_fast.specs.declared.flows.WarmPart.{WarmPart}
@@ -31,19 +22,6 @@ use Rattle.cpl_fast.specs.Filled.{AreElementAreas, AreSkies, AreTables}
 use Rattle.cpl_fast.specs.Rooms.{ArePartAreas, HasTables}
 use Rattle.cpl_fast.proofs.InRange.{part_in_range, air_in_range}
 use Rattle.cpl_fast.proofs.Making.{skies_are}
-
-strength_most : (rates : Rates) → AreRates rates → (k : ℕ) → at rates.month k ≤ℤ pos 4_000
-strength_most rates are k = elim (cases_lt k (length rates.month)) [
-  | inl l ↦ (All-from_recursion (IsFromℤ 0 4_000) rates.month are.month k (pos 0) l).1
-  | inr past ↦ let none = get_or_past rates.month k (pos 0) past in omega (arith, ints, none)
-]
-
--- the strength of the sun in a month, as it was read
-pub strength_read : (rates : Rates) → AreRates rates → (k : ℕ) → to_z w64 (of_z w64 (at rates.month k)) ≡ at rates.month k
-strength_read rates are k =
-    let least = strength_least rates are k in
-    let most = strength_most rates are k in
-    omega (arith, ints, least, most)
 
 module _ (s : Before) (is : IsNumbered s.grid) (mates : MatesAgree s.grid.air.mosaic) (can : CanStep s) where
   -- THE LAND
@@ -121,28 +99,11 @@ module _ (s : Before) (is : IsNumbered s.grid) (mates : MatesAgree s.grid.air.mo
 
   -- THE AIR
 
-  module _ (heat vapour area sun : List ℤ) (strength : ℤ) (heat_is : heat ≡ s.mid.whole.air_heat) (vapour_is : vapour ≡ s.mid.whole.air_vapour)
-      (area_is : area ≡ s.grid.air.area) (sun_is : sun ≡ s.mid.whole.air_sun) (strength_is : strength ≡ at s.rates.month (s.month - 1)) where
+  module _ (heat vapour area : List ℤ) (heat_is : heat ≡ s.mid.whole.air_heat) (vapour_is : vapour ≡ s.mid.whole.air_vapour) (area_is : area ≡ s.grid.air.area) where
     pub side_in_range : (n : ℕ) → n < air_cells s.grid → IsAirSide (side_of heat vapour area n)
     side_in_range n l =
         let same : side_of heat vapour area n ≡ air_side s.grid s.mid.whole n = (λ i. side_of (heat_is i) (vapour_is i) (area_is i) n) in
         subst IsAirSide (sym same) (air_in_range s is can.air mates can n l)
 
-    pub strength_natural : pos 0 ≤ℤ strength
-    strength_natural = let least = strength_least s.rates can.rates (s.month - 1) in omega (arith, ints, least, strength_is)
-
-    pub sun_natural : (n : ℕ) → n < air_cells s.grid → pos 0 ≤ℤ at sun n
-    sun_natural n l =
-        let e = ap (λ (xs : List ℤ). at xs n) sun_is in
-        let count = can.mid.whole.lengths.air_sun in
-        let least = (can.mid.whole.stored.air_sun n (pos 0) (omega (arith, count))).0 in
-        omega (arith, ints, e, least)
-
-    pub sun_in_range : (n : ℕ) → n < air_cells s.grid → IsAmount (part_of (at sun n) strength (pos 1_000))
-    unfolding sun_on
-    sun_in_range n l =
-        let same : part_of (at sun n) strength (pos 1_000) ≡ sun_on s n = (λ i. part_of (at (sun_is i) n) (strength_is i) (pos 1_000)) in
-        subst IsAmount (sym same) ((keeps_all s is can.air mates can).sun n l)
-
-    pub skies_seen : (skies : List Sky) → length skies ≡ air_cells s.grid → ((n : ℕ) → n < air_cells s.grid → sky_at skies n ≡ sky_by s.rates strength heat vapour area sun n) → AreSkies s skies
-    skies_seen skies count value = skies_are s skies count (λ n l. value n l ∙ (λ i. sky_by s.rates (strength_is i) (heat_is i) (vapour_is i) (area_is i) (sun_is i) n))
+    pub skies_seen : (skies : List Sky) → length skies ≡ air_cells s.grid → ((n : ℕ) → n < air_cells s.grid → sky_at skies n ≡ sky_by s.rates heat vapour area n) → AreSkies s skies
+    skies_seen skies count value = skies_are s skies count (λ n l. value n l ∙ (λ i. sky_by s.rates (heat_is i) (vapour_is i) (area_is i) n))

@@ -22,7 +22,7 @@ use Rattle.cpl_mosaic.specs.Cells.{cell_of}
 use Rattle.cpl_restart.specs.declared.whole.Whole.{Whole}
 use Rattle.cpl_restart.specs.States.{air_cells, all_of_cell, of_cell, ocean_cells, part_count, IsWhole}
 use Rattle.cpl_restart.specs.Elements.{tiles_of, surface_number, element_count, element_area, areas_in, part_area, refs_of_surface_cell}
-use Rattle.cpl_restart.specs.FastStep.{Before, sun_on}
+use Rattle.cpl_restart.specs.FastStep.{Before}
 use Rattle.cpl_laws.specs.Once.{IsNumbered}
 use Rattle.cpl_laws.specs.Cells.{mesh_of}
 use Rattle.cpl_laws.proofs.Groups.{total_same}
@@ -148,7 +148,6 @@ module _ (grid : Grid) (is : IsNumbered grid) (whole : Whole) (lawful : IsWhole 
 
 module _ (s : Before) where
   pub skies_are : (skies : List Sky) → length skies ≡ air_cells s.grid
-      → ((n : ℕ) → n < air_cells s.grid → sky_at skies n ≡ sky_by s.rates (at s.rates.month (s.month - 1)) s.mid.whole.air_heat s.mid.whole.air_vapour s.grid.air.area s.mid.whole.air_sun n)
+      → ((n : ℕ) → n < air_cells s.grid → sky_at skies n ≡ sky_by s.rates s.mid.whole.air_heat s.mid.whole.air_vapour s.grid.air.area n)
       → AreSkies s skies
-  unfolding sun_on
   skies_are skies count value = record { count = count; each = value }

@@ -8,11 +8,12 @@ use Rattle.cpl_fixed.specs.declared.rates.Rates.{Rates}
 use Rattle.cpl_flux.proofs.Nothing.{no_element}
 use Rattle.cpl_fast.specs.declared.flows.Sky.{Sky}
 use Rattle.cpl_fast.specs.declared.flows.WarmPart.{WarmPart}
-use Rattle.cpl_fast.specs.Flows.{area_in, before_in, flow_at, flow_in, flow_through, no_flow, part_in}
+use Rattle.cpl_fast.specs.Flows.{area_in, before_in, flow_again, flow_at, flow_in, flow_through, no_flow, part_in}
 use Rattle.cpl_xgrid.specs.declared.parts.Surface.{Surface}
 use Rattle.cpl_restart.specs.FastStep.{albedo}
 use Rattle.cpl_fast.specs.Places.{place_in}
 use Rattle.cpl_fast.specs.Rain.{rained_on}
+use Rattle.cpl_fast.specs.Suns.{only_sun, sun_in}
 use Rattle.cpl_fast.specs.declared.flows.Flow.{Flow}
 use Rattle.cpl_fast.specs.declared.flows.Tables.{Tables}
 use Rattle.cpl_fast.proofs.Parts.{share_none}
@@ -27,22 +28,27 @@ zero_or_not (negsuc n) = inr (λ e. omega (arith, ints, e))
 pub no_part : (kept : ℤ) → part_of (pos 0) kept (pos 1_000) ≡ pos 0
 no_part kept = ap (λ (x : ℤ). int_div x (pos 1_000)) (zero-*ℤ kept)
 
--- nothing at all
-pub nothing_through : (rates : Rates) (sky : Sky) (warm : WarmPart) (albedo from : ℤ) → flow_through rates sky warm albedo (pos 0) from ≡ no_flow
-nothing_through rates sky warm albedo from =
+-- nothing at all but the sun
+pub nothing_through : (rates : Rates) (sky : Sky) (warm : WarmPart) (sun : ℤ) → flow_through rates sky warm (pos 0) sun ≡ only_sun sun
+nothing_through rates sky warm sun =
     let flux = no_element rates sky.air sky.weather warm.part warm.temperature in
-    let kept = pos 1_000 -ℤ albedo in
-    let sun = ap (λ (x : ℤ). part_of x kept (pos 1_000)) (share_none sky.sun from sky.air.area) ∙ no_part kept in
-    λ i. record { heat = (flux i).heat; water = (flux i).water; sun = sun i; rain = pos 0 }
+    λ i. record { heat = (flux i).heat; water = (flux i).water; sun = sun; rain = pos 0 }
 
--- nor by the tables
-pub none_in : (rates : Rates) (list : Surface) (sky : Sky) (tables : Tables) (row k : ℕ) → area_in tables row k ≡ pos 0 → flow_in rates list sky tables row k ≡ no_flow
+-- nor by the tables, where no sun stood
+pub none_again : (rates : Rates) (sky : Sky) (tables : Tables) (flows : List Flow) (row k : ℕ) → area_in tables row k ≡ pos 0 → flow_at flows (place_in (length tables.links.items) row k) ≡ no_flow → flow_again rates sky tables flows row k ≡ no_flow
 unfolding flow_in
-none_in rates list sky tables row k empty =
+none_again rates sky tables flows row k empty clear =
     let part = part_in tables row k in
-    let shade = albedo rates list k in
+    (λ i. flow_through rates sky part (empty i) (clear i).sun) ∙ nothing_through rates sky part (pos 0)
+
+-- no sun
+pub no_sun_in : (rates : Rates) (list : Surface) (sun area : ℤ) (tables : Tables) (row k : ℕ) → area_in tables row k ≡ pos 0 → sun_in rates list sun area tables row k ≡ pos 0
+unfolding sun_in
+no_sun_in rates list sun area tables row k empty =
     let from = before_in tables row k in
-    (λ i. flow_through rates sky part shade (empty i) from) ∙ nothing_through rates sky part shade from
+    let kept = pos 1_000 -ℤ albedo rates list k in
+    let none = (λ i. share sun from (from +ℤ empty i) area) ∙ share_none sun from area in
+    ap (λ (x : ℤ). part_of x kept (pos 1_000)) none ∙ no_part kept
 
 -- an element of the area 0 stays as it is
 pub rained_clear : (rain area : ℤ) (tables : Tables) (flows : List Flow) (row k : ℕ) → area_in tables row k ≡ pos 0 → flow_at flows (place_in (length tables.links.items) row k) ≡ no_flow → rained_on rain area tables flows row k ≡ no_flow

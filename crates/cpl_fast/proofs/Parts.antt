@@ -1,7 +1,8 @@
 -- Parts of amounts that aren't negative.
 use Rattle.std.proofs.Common.{◌≡◌, ◌∙◌, sym, ap, subst, arith, FitsSigned, w64, to_z, of_z}
 use Rattle.std.specs.Int.{w128}
-use Rattle.std.specs.Prelude.{ℤ, pos, negsuc, ◌+ℤ◌, ◌≤ℤ◌, ◌<ℤ◌}
+use Rattle.std.specs.Prelude.{ℤ, pos, negsuc, ◌+ℤ◌, ◌≤ℤ◌, ◌<ℤ◌, int_div}
+use Rattle.std.proofs.Math.IntN.{zero-*ℤ}
 use Rattle.std.proofs.lemmas.Int.{ints}
 use Rattle.cpl_fixed.specs.Amounts.{IsAmount}
 use Rattle.cpl_fixed.specs.Shares.{part_of, share}
@@ -41,6 +42,13 @@ share_none x from whole =
     let e = ap (λ (z : ℤ). part_of x z whole) same in
     omega (arith, ints, e)
 
+-- no share of nothing
+pub no_share : (from to whole : ℤ) → share (pos 0) from to whole ≡ pos 0
+no_share from to whole =
+    let upto = ap (λ (x : ℤ). int_div x whole) (zero-*ℤ to) in
+    let before = ap (λ (x : ℤ). int_div x whole) (zero-*ℤ from) in
+    omega (arith, ints, upto, before)
+
 -- an amount fits
 pub amount_fits : (z : ℤ) → IsAmount z → FitsSigned w64 z
 amount_fits (pos n) h = let m = h.1 in record { sfits = omega (arith, ints, m) }
@@ -63,7 +71,3 @@ amount_cast x amount e h = ap (λ (z : ℤ). to_z w64 (of_z w64 z)) (amount_wide
 -- an area that was read and passed
 pub area_read : (x b area : ℤ) → x ≡ b → pos 0 ≤ℤ b → b ≤ℤ area → area ≤ℤ pos 1_099_511_627_776 → to_z w64 (of_z w64 x) ≡ b
 area_read x b area e least most limit = omega (arith, ints)
-
--- the areas before an element, as they were read and passed
-pub before_read : (x b area : ℤ) → x ≡ b → pos 0 ≤ℤ b → b ≤ℤ area → area ≤ℤ pos 1_099_511_627_776 → (pos 0 ≤ℤ to_z w64 (of_z w64 x)) × (to_z w64 (of_z w64 x) ≤ℤ to_z w64 (of_z w64 area))
-before_read x b area e least most limit = (omega (arith, ints), omega (arith, ints))

@@ -1,6 +1,6 @@
 -- Items of tables, and the areas of elements.
-use Rattle.std.proofs.Common.{◌≡◌, ◌∙◌, sym, ap, subst, ℕ, ◌+◌, ◌*◌, ◌<◌, ◌≢◌, arith, add-one, List, length, map, inl, inr, get_or, get_or-set_same, get_or-set_other, slice_set}
-use Rattle.std.specs.Prelude.{ℤ, ◌+ℤ◌}
+use Rattle.std.proofs.Common.{◌≡◌, ◌∙◌, sym, ap, subst, ℕ, ◌+◌, ◌*◌, ◌<◌, ◌≤◌, ◌≢◌, arith, add-one, to_z, of_z, w64, List, length, map, inl, inr, get_or, get_or-set_same, get_or-set_other, slice_set}
+use Rattle.std.specs.Prelude.{ℤ, pos, ◌+ℤ◌, ◌≤ℤ◌}
 use Rattle.std.specs.List.{range_with_len}
 use Rattle.std.proofs.lemmas.Int.{ints}
 use Rattle.std.proofs.lemmas.Bool.{cases_eq}
@@ -10,7 +10,7 @@ use Rattle.cpl_fixed.specs.Totals.{total_of}
 use Rattle.cpl_diffusion.proofs.Sums.{sum_to}
 use Rattle.cpl_laws.proofs.Sums.{total_range}
 use Rattle.cpl_fast.specs.declared.flows.Tables.{Tables}
-use Rattle.cpl_fast.specs.Flows.{area_in, before_in, link_at}
+use Rattle.cpl_fast.specs.Flows.{IsInCell, area_in, before_in, link_at}
 
 -- the total over one number more
 pub total_more : (f : ℕ → ℤ) (n : ℕ) → total_of (map f (range_with_len 0 (n + 1))) ≡ total_of (map f (range_with_len 0 n)) +ℤ f n
@@ -23,6 +23,21 @@ before_none tables row = omega (arith, ints)
 pub before_more : (tables : Tables) (row k : ℕ) → before_in tables row (k + 1) ≡ before_in tables row k +ℤ area_in tables row k
 before_more tables row k = let e = total_more (area_in tables row) k in omega (arith, ints, e)
 
+-- the area of a cell of the air, as it was passed
+pub area_passed : (area : ℤ) (tables : Tables) (row k : ℕ) → IsInCell area tables row k → to_z w64 (of_z w64 area) ≡ area
+area_passed area tables row k can = let least = can.range.0 in let most = can.range.1 in omega (arith, ints, least, most)
+
+pub cell_passed : (area : ℤ) (tables : Tables) (row k : ℕ) → IsInCell area tables row k → IsInCell (to_z w64 (of_z w64 area)) tables row k
+cell_passed area tables row k can = subst (λ (a : ℤ). IsInCell a tables row k) (sym (area_passed area tables row k can)) can
+
+-- the areas before a row's first element, as they were read from its link and passed
+pub before_first : (area x : ℤ) (tables : Tables) (row : ℕ) → IsInCell area tables row 0 → x ≡ (link_at tables.links.items row).before
+    → (pos 0 ≤ℤ to_z w64 (of_z w64 x)) × (to_z w64 (of_z w64 x) ≤ℤ to_z w64 (of_z w64 area))
+before_first area x tables row can e =
+    let none = before_none tables row in
+    let most = can.range.1 in let least = can.least in let before = can.before in let within = can.within in
+    (omega (arith, ints), omega (arith, ints))
+
 -- one place more of a row is written, and the places before the row stay
 pub row_more : {X : Type 0} (f : ℕ → X) (xs : List X) (first k : ℕ) (d v : X) → first + k < length xs → ((j : ℕ) → j < k → get_or xs (first + j) d ≡ f j) → v ≡ f k
     → (j : ℕ) → j < k + 1 → get_or (slice_set xs (first + k) v) (first + j) d ≡ f j
@@ -32,6 +47,21 @@ row_more f xs first k d v within done own j below = elim (cases_eq j k) [
       let other : first + j ≢ first + k = omega (arith, ne) in
       get_or-set_other xs (first + k) (first + j) v d other ∙ done j (omega (arith, ne))
 ]
+
+-- one place more of a row is as it should be, where nothing is written
+pub row_passed : {X : Type 0} (f : ℕ → X) (xs : List X) (first k : ℕ) (d : X) → ((j : ℕ) → j < k → get_or xs (first + j) d ≡ f j) → get_or xs (first + k) d ≡ f k
+    → (j : ℕ) → j < k + 1 → get_or xs (first + j) d ≡ f j
+row_passed f xs first k d done own j below = elim (cases_eq j k) [
+  | inl e ↦ ap (λ n. get_or xs (first + n) d) e ∙ own ∙ sym (ap f e)
+  | inr ne ↦ done j (omega (arith, ne))
+]
+
+-- the places ahead of one that is written stay
+pub ahead_stay : {X : Type 0} (xs ys : List X) (place : ℕ) (d v : X) → ((n : ℕ) → place ≤ n → get_or xs n d ≡ get_or ys n d)
+    → (n : ℕ) → place + 1 ≤ n → get_or (slice_set xs place v) n d ≡ get_or ys n d
+ahead_stay xs ys place d v same n above =
+    let other : n ≢ place = omega arith in
+    get_or-set_other xs place n v d other ∙ same n (omega arith)
 
 pub others_stay : {X : Type 0} (xs ys : List X) (first k : ℕ) (d v : X) → ((n : ℕ) → n < first → get_or xs n d ≡ get_or ys n d)
     → (n : ℕ) → n < first → get_or (slice_set xs (first + k) v) n d ≡ get_or ys n d

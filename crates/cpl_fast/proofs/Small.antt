@@ -14,7 +14,7 @@ use Rattle.cpl_xgrid.specs.declared.parts.Surface.TheVariants.{Land}
 use Rattle.cpl_diffusion.proofs.Sums.{sum_to, sum_to-same, total_of-sum_to}
 use Rattle.cpl_fast.specs.declared.flows.Flow.{Flow}
 use Rattle.cpl_fast.specs.declared.sums.Sums.{Sums}
-use Rattle.cpl_fast.specs.Sums.{AreSmall, IsSmall, IsSmallTaken, SumsAre, joined, net_heat, none, of_flow, ref_at, taken, with_rain}
+use Rattle.cpl_fast.specs.Sums.{AreSmall, IsSmall, IsSmallTaken, SumsAre, joined, net_heat, of_flow, ref_at, taken, with_rain}
 use Rattle.cpl_fast.specs.declared.sums.Taken.{Taken}
 
 -- a number, as it was passed
@@ -46,14 +46,6 @@ smaller m n a le s = record {
   rain = more_small m n a.rain le s.rain;
 }
 
-pub none_small : AreSmall 0 none
-none_small = record {
-  heat = (omega (arith, ints), omega (arith, ints));
-  water = (omega (arith, ints), omega (arith, ints));
-  sun = (omega (arith, ints), omega (arith, ints));
-  rain = (omega (arith, ints), omega (arith, ints));
-}
-
 -- the same totals of each number
 pub totals_same : (sums : Sums) (t u : (Flow → ℤ) → ℤ) → ((number : Flow → ℤ) → t number ≡ u number) → SumsAre sums t → SumsAre sums u
 totals_same sums t u e a = record {
@@ -74,9 +66,6 @@ totals_joined a b t u s v = record {
 
 pub totals_of_flow : (flow : Flow) → SumsAre (of_flow flow) (λ number. number flow)
 totals_of_flow flow = record { heat = λ i. flow.heat; water = λ i. flow.water; sun = λ i. flow.sun; rain = λ i. flow.rain }
-
-pub totals_none : (f : (Flow → ℤ) → ℕ → ℤ) → SumsAre none (λ number. sum_to (f number) 0)
-totals_none f = record { heat = λ i. pos 0; water = λ i. pos 0; sun = λ i. pos 0; rain = λ i. pos 0 }
 
 -- one further item of sums below a bound
 pub sum_to_more : (f : ℕ → ℤ) (n : ℕ) → sum_to f (n + 1) ≡ sum_to f n +ℤ f n

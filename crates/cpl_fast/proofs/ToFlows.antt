@@ -1,9 +1,11 @@
 -- What flows through the elements and rains on them by the tables is that of the definitions.
-use Rattle.std.proofs.Common.{◌≡◌, ◌≢◌, ◌∙◌, sym, ap, subst, Bool, true, false, ℕ, ◌*◌, ◌<◌, ◌≤◌, arith, List, length, cond, min}
+use Rattle.std.proofs.Common.{◌≡◌, ◌≢◌, ◌∙◌, sym, ap, subst, Bool, true, false, ℕ, ◌*◌, ◌<◌, ◌≤◌, arith, List, length, map, cond, min}
 use Rattle.std.specs.Prelude.{ℤ, pos, ◌+ℤ◌, ◌-ℤ◌, ◌*ℤ◌, ◌≤ℤ◌}
 use Rattle.std.specs.List.{range_with_len}
 use Rattle.std.proofs.lemmas.Int.{ints}
 use Rattle.cpl_fixed.specs.Amounts.{IsAmount, at}
+use Rattle.cpl_fixed.specs.Shares.{share}
+use Rattle.cpl_fixed.specs.Totals.{total_of}
 use Rattle.cpl_fixed.specs.declared.limits.TheConstants.{VAPOUR_HEAT, WATER_HEAT}
 use Rattle.cpl_fixed.specs.declared.rates.Rates.{Rates}
 use Rattle.cpl_flux.specs.declared.parts.AirSide.{AirSide}
@@ -20,12 +22,13 @@ use Rattle.cpl_xgrid.specs.declared.parts.Surface.{Surface}
 use Rattle.cpl_xgrid.specs.declared.parts.Surface.TheVariants.{Land, Ocean}
 use Rattle.cpl_restart.specs.States.{air_cells, air_side}
 use Rattle.cpl_restart.specs.Elements.{air_number, area_before, element_area, element_count, over_all, over_elements, surface_number, share_at, tiles_of}
-use Rattle.cpl_restart.specs.FastStep.{Before, absorbed, entered, heat_down, heat_given, rain, rain_on, sun_on, surface_part, water_given, water_up, for_each}
+use Rattle.cpl_restart.specs.FastStep.{Before, absorbed, entered, heat_down, heat_given, rain, rain_on, surface_part, water_given, water_up, for_each}
 use Rattle.cpl_restart.specs.FastLaws.{IsPlaced}
 use Rattle.cpl_laws.proofs.Elements.{air_below, surface_below}
 use Rattle.cpl_laws.proofs.FastSums.{air_sum, all_water_with, all_with, given_heat, given_water, heat_with, over_rows, water_with}
 use Rattle.cpl_laws.proofs.Held.{read_cell}
 use Rattle.cpl_laws.proofs.Once.{refs_total}
+use Rattle.cpl_laws.proofs.Sums.{cells_same}
 use Rattle.cpl_laws.specs.Once.{IsNumbered}
 use Rattle.cpl_fast.specs.declared.flows.Flow.{Flow}
 use Rattle.cpl_fast.specs.declared.flows.Sky.{Sky}
@@ -33,10 +36,11 @@ use Rattle.cpl_fast.specs.declared.flows.Tables.{Tables}
 use Rattle.cpl_fast.specs.declared.flows.WarmPart.{WarmPart}
 use Rattle.cpl_fast.specs.declared.sums.Sums.{Sums}
 use Rattle.cpl_fast.specs.Filled.{AreSkies, AreTables}
-use Rattle.cpl_fast.specs.Flows.{CanFlow, IsSky, area_in, before_in, flow_at, flow_in, link_at, part_in, sky_at, sky_of}
+use Rattle.cpl_fast.specs.Flows.{CanFlow, IsInCell, IsSky, area_in, before_in, flow_again, flow_at, link_at, part_in, sky_at, sky_of}
 use Rattle.cpl_fast.specs.Places.{place_in}
-use Rattle.cpl_fast.specs.Rain.{CanRainOn, in_list, rained_on, with_share}
-use Rattle.cpl_fast.specs.Stages.{AreFlows, IsLawful, dry, flow_of, given}
+use Rattle.cpl_fast.specs.Rain.{AreDry, in_list, rain_in, rain_on_row, rained_on}
+use Rattle.cpl_fast.specs.Rooms.{HaveSuns}
+use Rattle.cpl_fast.specs.Stages.{AreFlows, IsLawful, dry, flow_of, given, sums_of}
 use Rattle.cpl_fast.specs.Sums.{SumsAre, net_heat, taken}
 use Rattle.cpl_fast.specs.Tables.{warm_part}
 use Rattle.cpl_fast.proofs.Elementwise.{list_is}
@@ -103,14 +107,14 @@ module _ (s : Before) (lawful : IsLawful s) (list : Surface) (tables : Tables) (
     abbrev air_of : AirSide
     air_of = air_side s.grid s.mid.whole (air_number s.grid (ref m))
 
-    sky_is : sky_of skies tables m ≡ record { air = air_of; weather = weather s.rates air_of; sun = sun_on s (air_number s.grid (ref m)) }
+    sky_is : sky_of skies tables m ≡ record { air = air_of; weather = weather s.rates air_of }
     sky_is = sky_found s list tables skies are seen lawful.numbers lawful.can m k l h
 
     area_is : area_in tables m k ≡ element_area s.grid s.mid.whole (ref m) k
     area_is = area_found s list tables skies are seen lawful.numbers lawful.can m k l h
 
     before_is : before_in tables m k ≡ area_before s.grid s.mid.whole (ref m) k
-    before_is = before_found s list tables are lawful.numbers lawful.can m l k h
+    before_is = before_found s list tables skies are seen lawful.numbers lawful.can m k l h
 
     placed : IsPlaced s (ref m) k
     placed = lawful.keeps.placed (ref m) k (record { row = l; part = h })
@@ -126,7 +130,6 @@ module _ (s : Before) (lawful : IsLawful s) (list : Surface) (tables : Tables) (
         subst IsSky (sym sky_is) (record {
           air = air_in_range s lawful.numbers lawful.can.air lawful.mates lawful.can (air_number s.grid (ref m)) below;
           temperature = temperature_most _ _;
-          sun = lawful.keeps.sun (air_number s.grid (ref m)) below;
         })
 
     place_is : place_in tables.cells (link_at tables.links.items m).surface k < length tables.parts.items
@@ -159,9 +162,6 @@ module _ (s : Before) (lawful : IsLawful s) (list : Surface) (tables : Tables) (
         record {
           seen = sky_in_range;
           place = place_is;
-          least = least;
-          before = natural;
-          within = inside;
           part = λ some. record {
             range = subst (λ (w : WarmPart). IsPart w.part) (sym (part_is some)) (part_in_range s lawful.numbers lawful.can.air lawful.mates lawful.can list n k (surface_below s.grid lawful.numbers list m l) h);
             temperature = subst (λ (w : WarmPart). w.temperature ≤ HOTTEST) (sym (part_is some)) (by_kind s.rates (surface_part s.grid s.mid list n k) (surface_part s.grid s.mid list n k).kind);
@@ -172,7 +172,7 @@ module _ (s : Before) (lawful : IsLawful s) (list : Surface) (tables : Tables) (
           };
         }
 
-    can_rain_here : CanRainOn (sky_of skies tables m).air.area tables m k
+    can_rain_here : IsInCell (sky_of skies tables m).air.area tables m k
     can_rain_here = record {
       range = sky_in_range.air.area;
       least = least;
@@ -209,14 +209,15 @@ module _ (s : Before) (lawful : IsLawful s) (list : Surface) (tables : Tables) (
   pub few : length tables.links.items ≤ 1_048_576
   few = let e = are.links.count in let most = rows_most list in omega (arith, e, most)
 
-  pub flows_are : (flows : List Flow) → length flows ≡ rows * width
-      → ((m k : ℕ) → m < length tables.links.items → k < tables.width → flow_at flows (place_in (length tables.links.items) m k) ≡ flow_in s.rates list (sky_of skies tables m) tables m k)
+  pub flows_are : (old flows : List Flow) → HaveSuns s list old → length flows ≡ rows * width
+      → ((m k : ℕ) → m < length tables.links.items → k < tables.width → flow_at flows (place_in (length tables.links.items) m k) ≡ flow_again s.rates (sky_of skies tables m) tables old m k)
       → AreFlows s dry list flows
-  flows_are flows count value = record {
+  flows_are old flows suns count value = record {
     count = count;
-    each = λ m k l h.
+    each = λ m k l h. (
+        let sun = ap (λ (r : ℕ). (flow_at old (place_in r m k)).sun) are.links.count ∙ suns.each m k l h in
         ap (λ (r : ℕ). flow_at flows (place_in r m k)) (sym are.links.count) ∙ value m k (row_above m l) (part_above k h)
-        ∙ flow_found s list tables skies are seen lawful.numbers lawful.can m k l h (placed m k l h);
+        ∙ flow_found s list tables skies are seen lawful.numbers lawful.can m k l h (placed m k l h) _ sun);
   }
 
   -- RAIN
@@ -234,21 +235,42 @@ module _ (s : Before) (lawful : IsLawful s) (list : Surface) (tables : Tables) (
         let h : n < air_cells s.grid = let e = seen.count in omega (arith, l, e) in
         subst IsAmount (sym (rain_at n h)) (rain_in_range n h)
 
-    pub can_rain_on : (m k : ℕ) → m < length tables.links.items → k < tables.width → CanRainOn (sky_at skies (link_at tables.links.items m).air).air.area tables m k
+    pub can_rain_on : (m k : ℕ) → m < length tables.links.items → k < tables.width → IsInCell (sky_at skies (link_at tables.links.items m).air).air.area tables m k
     can_rain_on m k l h = can_rain_here m k (row_below m l) (part_below k h)
 
-    wet_is : (flows : List Flow) → AreFlows s dry list flows → (m k : ℕ) → m < rows → k < width
-        → rained_on (at rains (link_at tables.links.items m).air) (sky_at skies (link_at tables.links.items m).air).air.area tables flows m k ≡ flow_of s (rain_on s) (ref m) k
-    unfolding rained_on rain_on share_at
-    wet_is flows have m k l h =
+    -- the rain on an element
+    rain_is : (m : ℕ) → m < rows → (k : ℕ) → k < width → rain_in (at rains (link_at tables.links.items m).air) (sky_at skies (link_at tables.links.items m).air).air.area tables m k ≡ rain_on s (ref m) k
+    unfolding rain_on share_at
+    rain_is m l k h =
         let n = air_number s.grid (ref m) in
-        let link = (are.links.each m l).air in
-        let flow = ap (λ (r : ℕ). flow_at flows (place_in r m k)) are.links.count ∙ have.each m k l h in
-        let water = ap (at rains) link ∙ rain_at n (below m k l h) in
+        let water = ap (at rains) (are.links.each m l).air ∙ rain_at n (below m k l h) in
         let before = before_is m k l h in
         let area = area_is m k l h in
         let whole = ap (λ (sky : Sky). sky.air.area) (sky_is m k l h) in
-        λ i. with_share (flow i) (water i) (before i) (area i) (whole i)
+        λ i. share (water i) (before i) (before i +ℤ area i) (whole i)
+
+    wet_is : (flows : List Flow) → AreFlows s dry list flows → (m k : ℕ) → m < rows → k < width
+        → rained_on (at rains (link_at tables.links.items m).air) (sky_at skies (link_at tables.links.items m).air).air.area tables flows m k ≡ flow_of s (rain_on s) (ref m) k
+    unfolding rained_on
+    wet_is flows have m k l h =
+        let flow = ap (λ (r : ℕ). flow_at flows (place_in r m k)) are.links.count ∙ have.each m k l h in
+        λ i. record (flow i) { rain = rain_is m l k h i }
+
+    -- the flows before it rains
+    pub are_dry : (flows : List Flow) → AreFlows s dry list flows → AreDry tables flows
+    are_dry flows have m k l h =
+        ap (λ (r : ℕ). (flow_at flows (place_in r m k)).rain) are.links.count ∙ ap (λ (flow : Flow). flow.rain) (have.each m k (row_below m l) (part_below k h))
+
+    -- the rain on all elements
+    pub fell_is : (fell : ℤ)
+        → fell ≡ total_of (map (λ row. rain_on_row (at rains (link_at tables.links.items row).air) (sky_at skies (link_at tables.links.items row).air).air.area tables row) (range_with_len 0 (length tables.links.items)))
+        → fell ≡ over_rows s.grid list (rain_on s)
+    fell_is fell e =
+        let one = λ (m : ℕ). rain_on_row (at rains (link_at tables.links.items m).air) (sky_at skies (link_at tables.links.items m).air).air.area tables m in
+        e ∙ ap (λ (n : ℕ). total_of (map one (range_with_len 0 n))) are.links.count
+        ∙ cells_same one (λ m. over_elements s.grid (rain_on s) (ref m)) rows (λ m l. (
+        let rain = rain_in (at rains (link_at tables.links.items m).air) (sky_at skies (link_at tables.links.items m).air).air.area tables m in
+        ap (λ (w : ℕ). total_of (map rain (range_with_len 0 w))) are.width ∙ cells_same rain (rain_on s (ref m)) width (rain_is m l)))
 
     pub wet_are : (flows new : List Flow) → AreFlows s dry list flows → length new ≡ length flows
         → ((m k : ℕ) → m < length tables.links.items → k < tables.width
@@ -261,22 +283,28 @@ module _ (s : Before) (lawful : IsLawful s) (list : Surface) (tables : Tables) (
 
   -- WHAT ALL ELEMENTS OF THE LIST HAVE
 
-  over_is : (flows : List Flow) (number : Flow → ℤ) → AreFlows s (rain_on s) list flows → in_list flows (length tables.links.items) tables.width number ≡ over_rows s.grid list (λ ref k. number (flow_of s (rain_on s) ref k))
-  over_is flows number have =
-      (λ i. in_list flows (are.links.count i) (are.width i) number) ∙ list_is s (rain_on s) number list flows have
+  over_is : (wet : XRef → ℕ → ℤ) (flows : List Flow) (number : Flow → ℤ) → AreFlows s wet list flows → in_list flows (length tables.links.items) tables.width number ≡ over_rows s.grid list (λ ref k. number (flow_of s wet ref k))
+  over_is wet flows number have =
+      (λ i. in_list flows (are.links.count i) (are.width i) number) ∙ list_is s wet number list flows have
 
-  pub sun_is : (flows : List Flow) (sums : Sums) → AreFlows s (rain_on s) list flows → SumsAre sums (in_list flows (length tables.links.items) tables.width) → sums.sun ≡ over_rows s.grid list (absorbed s)
-  sun_is flows sums have of = of.sun ∙ over_is flows (λ (flow : Flow). flow.sun) have
+  -- the sums of what flows
+  pub flown_is : (wet : XRef → ℕ → ℤ) (flows : List Flow) (sums : Sums) → AreFlows s wet list flows → SumsAre sums (in_list flows (length tables.links.items) tables.width) → sums ≡ sums_of s wet list
+  flown_is wet flows sums have of =
+      let heat = of.heat ∙ over_is wet flows (λ (flow : Flow). flow.heat) have in
+      let water = of.water ∙ over_is wet flows (λ (flow : Flow). flow.water) have in
+      let sun = of.sun ∙ over_is wet flows (λ (flow : Flow). flow.sun) have in
+      let rain = of.rain ∙ over_is wet flows (λ (flow : Flow). flow.rain) have in
+      λ i. record { heat = heat i; water = water i; sun = sun i; rain = rain i }
 
-  pub given_is : (flows : List Flow) (sums : Sums) → AreFlows s (rain_on s) list flows → SumsAre sums (in_list flows (length tables.links.items) tables.width) → taken sums ≡ given s list
-  given_is flows sums have of =
-      let heat = of.heat ∙ over_is flows (λ (flow : Flow). flow.heat) have in
-      let water = of.water ∙ over_is flows (λ (flow : Flow). flow.water) have in
-      let rain = of.rain ∙ over_is flows (λ (flow : Flow). flow.rain) have in
+  -- what the air gave, by the sums before it rained and by the rain
+  pub given_is : (sums : Sums) (fell : ℤ) → sums ≡ sums_of s dry list → fell ≡ over_rows s.grid list (rain_on s) → taken (record sums { rain = fell }) ≡ given s list
+  given_is sums fell of rain =
+      let heat = ap (λ (a : Sums). a.heat) of in
+      let water = ap (λ (a : Sums). a.water) of in
       let a = given_heat s lawful.numbers list ∙ rows_with s lawful.numbers list (rain_on s) in
       let b = given_water s lawful.numbers list ∙ rows_water_with s lawful.numbers list (rain_on s) in
-      let h : net_heat sums +ℤ (WATER_HEAT *ℤ sums.rain) ≡ heat_given s list = omega (arith, ints, heat, water, rain, a) in
-      let w : sums.rain -ℤ sums.water ≡ water_given s list = omega (arith, ints, water, rain, b) in
+      let h : net_heat sums +ℤ (WATER_HEAT *ℤ fell) ≡ heat_given s list = omega (arith, ints, heat, water, rain, a) in
+      let w : fell -ℤ sums.water ≡ water_given s list = omega (arith, ints, water, rain, b) in
       λ i. record { heat = h i; water = w i }
 
 -- the sun of both lists is what entered

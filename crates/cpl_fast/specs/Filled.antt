@@ -8,7 +8,7 @@ use Rattle.cpl_xgrid.specs.Rows.{rows_of}
 use Rattle.cpl_restart.specs.declared.whole.Whole.{Whole}
 use Rattle.cpl_restart.specs.States.{air_cells, air_side}
 use Rattle.cpl_restart.specs.Elements.{tiles_of, element_count, element_area}
-use Rattle.cpl_restart.specs.FastStep.{Before, surface_part, sun_on}
+use Rattle.cpl_restart.specs.FastStep.{Before, surface_part}
 use Rattle.cpl_flux.specs.Temperatures.{weather}
 use Rattle.cpl_fast.specs.declared.flows.Sky.{Sky}
 use Rattle.cpl_fast.specs.declared.flows.Tables.{Tables}
@@ -36,4 +36,4 @@ pub record AreTables (s : Before) (list : Surface) (tables : Tables) : Type 0 wh
 pub record AreSkies (s : Before) (skies : List Sky) : Type 0 where
   pub count : length skies ≡ air_cells s.grid
   pub each : (n : ℕ) → n < air_cells s.grid
-      → sky_at skies n ≡ record { air = air_side s.grid s.mid.whole n; weather = weather s.rates (air_side s.grid s.mid.whole n); sun = sun_on s n }
+      → sky_at skies n ≡ record { air = air_side s.grid s.mid.whole n; weather = weather s.rates (air_side s.grid s.mid.whole n) }

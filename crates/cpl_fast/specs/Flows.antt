@@ -1,16 +1,16 @@
 -- What flows through the elements of a list, by tables: the links of the rows, the areas of the elements, row by row, and the parts
 -- of the surface, those of all cells part by part.
-use Rattle.std.specs.Prelude.{◌≡◌, ◌≢◌, ℕ, ◌+◌, ◌*◌, ◌<◌, ◌≤◌, List, map, length, ℤ, pos, ◌+ℤ◌, ◌-ℤ◌, ◌≤ℤ◌, ◌<ℤ◌, slice_index_or}
+use Rattle.std.specs.Prelude.{◌≡◌, ◌≢◌, ℕ, ◌+◌, ◌*◌, ◌<◌, ◌≤◌, List, map, length, ℤ, pos, ◌+ℤ◌, ◌≤ℤ◌, ◌<ℤ◌, slice_index_or}
 use Rattle.std.specs.List.{range_with_len}
 use Rattle.cpl_fixed.specs.Amounts.{IsAmount, at}
-use Rattle.cpl_fixed.specs.Shares.{part_of, share}
+use Rattle.cpl_fixed.specs.Ranges.{IsFromℤ}
+use Rattle.cpl_fixed.specs.Shares.{part_of}
 use Rattle.cpl_fixed.specs.Totals.{total_of}
+use Rattle.cpl_fixed.specs.declared.limits.TheConstants.{MOST_AREA}
 use Rattle.cpl_fixed.specs.declared.rates.Rates.{Rates}
 use Rattle.cpl_flux.specs.declared.parts.Kind.TheVariants.{Land}
 use Rattle.cpl_flux.specs.Elements.{IsAirSide, IsPart, IsElement, element_between}
 use Rattle.cpl_flux.specs.declared.temperatures.TheConstants.{HOTTEST}
-use Rattle.cpl_xgrid.specs.declared.parts.Surface.{Surface}
-use Rattle.cpl_restart.specs.FastStep.{albedo}
 use Rattle.cpl_fast.specs.declared.portions.Portions.{Portions}
 use Rattle.cpl_fast.specs.declared.flows.Flow.{Flow}
 use Rattle.cpl_fast.specs.declared.flows.Link.{Link}
@@ -31,7 +31,6 @@ pub record ArePortions (portions : Portions) : Type 0 where
 pub record IsSky (sky : Sky) : Type 0 where
   pub air : IsAirSide sky.air
   pub temperature : sky.weather.temperature ≤ HOTTEST
-  pub sun : IsAmount sky.sun
 
 -- ITEMS OF TABLES, and what would be read past their ends
 
@@ -45,7 +44,7 @@ abbrev pub no_flow : Flow
 no_flow = record { heat = pos 0; water = pos 0; sun = pos 0; rain = pos 0 }
 
 abbrev pub no_sky : Sky
-no_sky = record { air = record { heat = pos 0; vapour = pos 0; area = pos 0 }; weather = record { temperature = 0; humidity = 0 }; sun = pos 0 }
+no_sky = record { air = record { heat = pos 0; vapour = pos 0; area = pos 0 }; weather = record { temperature = 0; humidity = 0 } }
 
 abbrev pub link_at : List Link → ℕ → Link
 link_at links n = slice_index_or links n no_link
@@ -77,18 +76,29 @@ part_in tables row k = warm_at tables.parts.items (place_in tables.cells (link_a
 abbrev pub sky_of : List Sky → Tables → (row : ℕ) → Sky
 sky_of skies tables row = sky_at skies (link_at tables.links.items row).air
 
--- what flows through an element before it rains, where the areas before it are `from`
-abbrev pub flow_through : Rates → Sky → WarmPart → (albedo b from : ℤ) → Flow
-flow_through rates sky warm albedo b from = record {
+-- an element lies in its cell of the air, of this area, behind those before it
+pub record IsInCell (area : ℤ) (tables : Tables) (row k : ℕ) : Type 0 where
+  pub range : IsFromℤ 1 MOST_AREA area
+  pub least : pos 0 ≤ℤ area_in tables row k
+  pub before : pos 0 ≤ℤ before_in tables row k
+  pub within : (before_in tables row k +ℤ area_in tables row k) ≤ℤ area
+
+-- what flows through an element that absorbs this sun, before it rains
+abbrev pub flow_through : Rates → Sky → WarmPart → (b sun : ℤ) → Flow
+flow_through rates sky warm b sun = record {
   heat = (element_between rates sky.air sky.weather warm.part warm.temperature b).heat;
   water = (element_between rates sky.air sky.weather warm.part warm.temperature b).water;
-  sun = part_of (share sky.sun from (from +ℤ b) sky.air.area) (pos 1_000 -ℤ albedo) (pos 1_000);
+  sun = sun;
   rain = pos 0;
 }
 
--- what flows through element k of a row of a list
-unfoldable pub flow_in : Rates → Surface → Sky → Tables → (row k : ℕ) → Flow
-flow_in rates list sky tables row k = flow_through rates sky (part_in tables row k) (albedo rates list k) (area_in tables row k) (before_in tables row k)
+-- what flows through element k of a row that absorbs this sun
+unfoldable pub flow_in : Rates → Sky → Tables → (row k : ℕ) → (sun : ℤ) → Flow
+flow_in rates sky tables row k sun = flow_through rates sky (part_in tables row k) (area_in tables row k) sun
+
+-- where the sun stands in the flows before
+abbrev pub flow_again : Rates → Sky → Tables → List Flow → (row k : ℕ) → Flow
+flow_again rates sky tables flows row k = flow_in rates sky tables row k (flow_at flows (place_in (length tables.links.items) row k)).sun
 
 -- the part of an element is in range, and the element lies in it
 pub record IsOnPart (sky : Sky) (tables : Tables) (row k : ℕ) : Type 0 where
@@ -100,7 +110,4 @@ pub record IsOnPart (sky : Sky) (tables : Tables) (row k : ℕ) : Type 0 where
 pub record CanFlow (sky : Sky) (tables : Tables) (row k : ℕ) : Type 0 where
   pub seen : IsSky sky
   pub place : place_in tables.cells (link_at tables.links.items row).surface k < length tables.parts.items
-  pub least : pos 0 ≤ℤ area_in tables row k
-  pub before : pos 0 ≤ℤ before_in tables row k
-  pub within : (before_in tables row k +ℤ area_in tables row k) ≤ℤ sky.air.area
   pub part : area_in tables row k ≢ pos 0 → IsOnPart sky tables row k

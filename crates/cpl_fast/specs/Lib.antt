@@ -5,6 +5,7 @@ pub mod Air
 pub mod Tables
 pub mod Filled
 pub mod Rain
+pub mod Suns
 pub mod Rooms
 pub mod Surfaces
 pub mod Stages

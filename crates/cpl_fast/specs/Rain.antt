@@ -1,10 +1,8 @@
 -- Rain on the elements of a list.
-use Rattle.std.specs.Prelude.{ℕ, List, map, length, ℤ, pos, ◌+ℤ◌, ◌≤ℤ◌}
+use Rattle.std.specs.Prelude.{◌≡◌, ℕ, ◌<◌, List, map, length, ℤ, pos, ◌+ℤ◌}
 use Rattle.std.specs.List.{range_with_len}
-use Rattle.cpl_fixed.specs.Ranges.{IsFromℤ}
 use Rattle.cpl_fixed.specs.Shares.{share}
 use Rattle.cpl_fixed.specs.Totals.{total_of}
-use Rattle.cpl_fixed.specs.declared.limits.TheConstants.{MOST_AREA}
 use Rattle.cpl_fast.specs.declared.flows.Flow.{Flow}
 use Rattle.cpl_fast.specs.declared.flows.Tables.{Tables}
 use Rattle.cpl_fast.specs.Flows.{area_in, before_in, flow_at}
@@ -18,12 +16,17 @@ with_share flow rain from b area = record flow { rain = share rain from (from +�
 unfoldable pub rained_on : (rain area : ℤ) → Tables → List Flow → (row k : ℕ) → Flow
 rained_on rain area tables flows row k = with_share (flow_at flows (place_in (length tables.links.items) row k)) rain (before_in tables row k) (area_in tables row k) area
 
--- the areas of an element are in range
-pub record CanRainOn (area : ℤ) (tables : Tables) (row k : ℕ) : Type 0 where
-  pub range : IsFromℤ 1 MOST_AREA area
-  pub least : pos 0 ≤ℤ area_in tables row k
-  pub before : pos 0 ≤ℤ before_in tables row k
-  pub within : (before_in tables row k +ℤ area_in tables row k) ≤ℤ area
+-- the rain on an element, from a cell of the air with this rain and this area
+abbrev pub rain_in : (rain area : ℤ) → Tables → (row k : ℕ) → ℤ
+rain_in rain area tables row k = share rain (before_in tables row k) (before_in tables row k +ℤ area_in tables row k) area
+
+-- the rain on all elements of a row
+abbrev pub rain_on_row : (rain area : ℤ) → Tables → (row : ℕ) → ℤ
+rain_on_row rain area tables row = total_of (map (rain_in rain area tables row) (range_with_len 0 tables.width))
+
+-- no rain falls on the elements of a list
+abbrev pub AreDry : Tables → List Flow → Type 0
+AreDry tables flows = (row k : ℕ) → row < length tables.links.items → k < tables.width → (flow_at flows (place_in (length tables.links.items) row k)).rain ≡ pos 0
 
 -- the sum over the elements of all rows
 abbrev pub in_list : List Flow → (rows width : ℕ) → (Flow → ℤ) → ℤ

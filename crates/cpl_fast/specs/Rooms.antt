@@ -10,13 +10,16 @@ use Rattle.cpl_xgrid.specs.declared.parts.Surface.TheVariants.{Land, Ocean}
 use Rattle.cpl_xgrid.specs.Rows.{rows_of}
 use Rattle.cpl_restart.specs.declared.whole.Whole.{Whole}
 use Rattle.cpl_restart.specs.declared.whole.Mid.{Mid}
-use Rattle.cpl_restart.specs.States.{air_cells, land_cells, ocean_cells, categories}
+use Rattle.cpl_restart.specs.States.{air_cells, land_cells, ocean_cells}
 use Rattle.cpl_restart.specs.Elements.{element_count, part_area, tiles_of}
-use Rattle.cpl_restart.specs.FastStep.{Before}
+use Rattle.cpl_restart.specs.FastStep.{Before, absorbed}
+use Rattle.cpl_fast.specs.declared.flows.Flow.{Flow}
 use Rattle.cpl_fast.specs.declared.flows.Tables.{Tables}
 use Rattle.cpl_fast.specs.declared.room.FastRoom.{FastRoom}
 use Rattle.cpl_fast.specs.Filled.{AreElementAreas}
-use Rattle.cpl_fast.specs.Sums.{AreClear}
+use Rattle.cpl_fast.specs.Flows.{flow_at}
+use Rattle.cpl_fast.specs.Places.{place_in}
+use Rattle.cpl_fast.specs.Sums.{AreClear, AreStill}
 use Rattle.cpl_fast.specs.Tables.{AreLinks}
 
 -- what a fast step goes by, from its parts
@@ -31,7 +34,8 @@ pub record HasTables (grid : Grid) (list : Surface) (tables : Tables) : Type 0 w
   pub areas : length tables.areas.items ≡ length (rows_of grid.xgrid list) * element_count grid list
   pub parts : length tables.parts.items ≡ cells_of (tiles_of grid list) * element_count grid list
 
--- room for the fast steps of a grid: the faces of the air and the links of the rows, and a number for whatever a step writes
+-- room for the fast steps of a grid: the faces of the air and the links of the rows, and a number for whatever a step writes; nothing
+-- flows through elements whose area in the tables is 0
 pub record IsFastRoom (grid : Grid) (room : FastRoom) : Type 0 where
   pub ways : AreWays grid.air room.ways
   pub diffusion : IsRoom (air_cells grid) room.diffusion
@@ -45,11 +49,8 @@ pub record IsFastRoom (grid : Grid) (room : FastRoom) : Type 0 where
   pub rain : length room.rain.items ≡ air_cells grid
   pub air_heat : length room.air_heat.items ≡ air_cells grid
   pub air_vapour : length room.air_vapour.items ≡ air_cells grid
-  pub land_heat : length room.land_heat.items ≡ land_cells grid
-  pub land_water : length room.land_water.items ≡ land_cells grid
-  pub ice_heat : length room.ice_heat.items ≡ categories grid * ocean_cells grid
-  pub skin_water : length room.skin_water.items ≡ ocean_cells grid
-  pub skin_heat : length room.skin_heat.items ≡ ocean_cells grid
+  pub land_clear : AreClear room.land room.land_flows.items
+  pub ocean_clear : AreClear room.ocean room.ocean_flows.items
 
 -- the areas of the parts of a surface, cell by cell
 pub record ArePartAreas (grid : Grid) (whole : Whole) (list : Surface) (areas : List ℤ) : Type 0 where
@@ -57,13 +58,31 @@ pub record ArePartAreas (grid : Grid) (whole : Whole) (list : Surface) (areas : 
   pub each : (n k : ℕ) → n < cells_of (tiles_of grid list) → k < element_count grid list
       → at areas (n * element_count grid list + k) ≡ part_area grid whole list n k
 
--- room in which the areas of a state's elements and parts stand, and in which nothing flows through elements of the area 0; they
--- depend on the state's parts alone
-pub record IsDivided (grid : Grid) (whole : Whole) (fast : FastRoom) : Type 0 where
+-- room in which nothing flows at all
+pub record IsStillRoom (grid : Grid) (fast : FastRoom) : Type 0 where
   pub room : IsFastRoom grid fast
+  pub land : AreStill fast.land fast.land_flows.items
+  pub ocean : AreStill fast.ocean fast.ocean_flows.items
+
+-- room in which the areas of a state's elements and parts stand; they depend on its parts alone
+pub record HasAreas (grid : Grid) (whole : Whole) (fast : FastRoom) : Type 0 where
   pub land : AreElementAreas grid whole Land fast.land.areas.items
   pub ocean : AreElementAreas grid whole Ocean fast.ocean.areas.items
   pub land_area : ArePartAreas grid whole Land fast.land_area.items
   pub ocean_area : ArePartAreas grid whole Ocean fast.ocean_area.items
-  pub land_clear : AreClear fast.land fast.land_flows.items
-  pub ocean_clear : AreClear fast.ocean fast.ocean_flows.items
+
+-- the sun that each element of a list absorbs stands in its flow
+pub record HaveSuns (s : Before) (list : Surface) (flows : List Flow) : Type 0 where
+  pub each : (m k : ℕ) → m < length (rows_of s.grid.xgrid list) → k < element_count s.grid list
+      → (flow_at flows (place_in (length (rows_of s.grid.xgrid list)) m k)).sun ≡ absorbed s (record { list = list; row = m }) k
+
+-- room in which the areas of the elements and the parts stand before a step, and the sun that the elements absorb; they depend on the
+-- grid, the rates, the month, and of the state on the parts and the air's sun alone
+pub record IsDivided (s : Before) (fast : FastRoom) : Type 0 where
+  pub room : IsFastRoom s.grid fast
+  pub land : AreElementAreas s.grid s.mid.whole Land fast.land.areas.items
+  pub ocean : AreElementAreas s.grid s.mid.whole Ocean fast.ocean.areas.items
+  pub land_area : ArePartAreas s.grid s.mid.whole Land fast.land_area.items
+  pub ocean_area : ArePartAreas s.grid s.mid.whole Ocean fast.ocean_area.items
+  pub land_suns : HaveSuns s Land fast.land_flows.items
+  pub ocean_suns : HaveSuns s Ocean fast.ocean_flows.items

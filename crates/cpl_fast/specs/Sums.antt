@@ -48,6 +48,13 @@ IsClear tables flows row = (k : ℕ) → k < tables.width → area_in tables row
 abbrev pub AreClear : Tables → List Flow → Type 0
 AreClear tables flows = (row : ℕ) → row < length tables.links.items → IsClear tables flows row
 
+-- nothing flows through the elements of a row at all, nor through those of any row
+abbrev pub IsStill : Tables → List Flow → (row : ℕ) → Type 0
+IsStill tables flows row = (k : ℕ) → k < tables.width → flow_at flows (place_in (length tables.links.items) row k) ≡ no_flow
+
+abbrev pub AreStill : Tables → List Flow → Type 0
+AreStill tables flows = (row : ℕ) → row < length tables.links.items → IsStill tables flows row
+
 -- over the elements of a row, of so many rows
 abbrev pub in_row : List Flow → (rows width row : ℕ) → (Flow → ℤ) → ℤ
 in_row flows rows width row number = total_of (map (λ k. number (flow_at flows (place_in rows row k))) (range_with_len 0 width))

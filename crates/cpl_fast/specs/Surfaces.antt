@@ -3,9 +3,10 @@ use Rattle.std.specs.Prelude.{◌≡◌, ℕ, ◌+◌, ◌*◌, ◌<◌, ◌≤�
 use Rattle.std.specs.List.{range_with_len}
 use Rattle.cpl_fixed.specs.Amounts.{IsAmount, at}
 use Rattle.cpl_fixed.specs.Totals.{total_of}
-use Rattle.cpl_fixed.specs.declared.limits.TheConstants.{MOST_EXCHANGE_CELLS}
+use Rattle.cpl_fixed.specs.declared.limits.TheConstants.{MOST_CELLS, MOST_EXCHANGE_CELLS}
 use Rattle.cpl_mosaic.specs.declared.parts.Tile.{Tile}
 use Rattle.cpl_mosaic.specs.Cells.{cell_of}
+use Rattle.cpl_mosaic.specs.Contacts.{cells_of}
 use Rattle.cpl_xgrid.specs.Lists.{XGridLists}
 use Rattle.cpl_xgrid.specs.Rows.{refs_of_other, rows_of}
 use Rattle.cpl_xgrid.specs.declared.parts.XRef.{XRef}
@@ -46,6 +47,20 @@ pub record CanGainLand (xgrid : XGridLists) (flows : List Flow) (heat water : �
   pub rows : AreRowsOf Land xgrid flows 1 n
   pub heat_range : IsAmount (after heat water (taken (land_sums xgrid flows n)) (land_sums xgrid flows n).sun).heat
   pub water_range : IsAmount (after heat water (taken (land_sums xgrid flows n)) (land_sums xgrid flows n).sun).water
+
+-- lists of the land that can take what flows
+pub record CanTakeLand (xgrid : XGridLists) (flows : List Flow) (heat water : List ℤ) : Type 0 where
+  pub cells : length heat ≡ cells_of xgrid.land
+  pub few : length heat ≤ MOST_CELLS
+  pub count : length water ≡ length heat
+  pub each : (n : ℕ) → n < length heat → CanGainLand xgrid flows (at heat n) (at water n) n
+
+-- the lists after they took it
+pub record HasTakenLand (xgrid : XGridLists) (flows : List Flow) (heat water new_heat new_water : List ℤ) : Type 0 where
+  pub heat_count : length new_heat ≡ length heat
+  pub water_count : length new_water ≡ length heat
+  pub heat_after : (n : ℕ) → n < length heat → at new_heat n ≡ (land_at xgrid flows (at heat n) (at water n) n).heat
+  pub water_after : (n : ℕ) → n < length heat → at new_water n ≡ (land_at xgrid flows (at heat n) (at water n) n).water
 
 -- what the first cells take
 abbrev pub taken_to : ℕ → (ℕ → Taken) → Taken
@@ -92,6 +107,27 @@ pub record CanGainSkin (xgrid : XGridLists) (flows : List Flow) (categories : �
   pub rows : AreRowsOf Ocean xgrid flows (categories + 1) n
   pub heat_range : IsAmount (skin_at xgrid flows categories heat water n).heat
   pub water_range : IsAmount (skin_at xgrid flows categories heat water n).water
+
+-- lists of categories and of skins that can take what flows, where `area` has the areas of all parts
+pub record CanTakeIce (xgrid : XGridLists) (flows : List Flow) (area : List ℤ) (categories : ℕ) (ice heat water : List ℤ) : Type 0 where
+  pub cells : length heat ≡ cells_of xgrid.ocean
+  pub few : length heat ≤ MOST_CELLS
+  pub parts : categories ≤ 5
+  pub area_count : length area ≡ length heat * (categories + 1)
+  pub ice_count : length ice ≡ categories * length heat
+  pub water_count : length water ≡ length heat
+  pub still : (n : ℕ) → n < length heat → IsStill xgrid flows area categories n
+  pub skins : (n : ℕ) → n < length heat → CanGainSkin xgrid flows categories (at heat n) (at water n) n
+  pub ices : (n k : ℕ) → n < length heat → k < categories → CanGainIce xgrid flows categories ice n k
+
+-- the lists after they took it
+pub record HasTakenIce (xgrid : XGridLists) (flows : List Flow) (categories : ℕ) (ice heat water new_ice new_heat new_water : List ℤ) : Type 0 where
+  pub ice_count : length new_ice ≡ length ice
+  pub heat_count : length new_heat ≡ length heat
+  pub water_count : length new_water ≡ length heat
+  pub ice_after : (n k : ℕ) → n < length heat → k < categories → at new_ice (n * categories + k) ≡ at ice (n * categories + k) +ℤ category_gain xgrid flows n k
+  pub heat_after : (n : ℕ) → n < length heat → at new_heat n ≡ (skin_at xgrid flows categories (at heat n) (at water n) n).heat
+  pub water_after : (n : ℕ) → n < length heat → at new_water n ≡ (skin_at xgrid flows categories (at heat n) (at water n) n).water
 
 -- what cell n of the ocean's mosaic takes, its skin and its categories together
 unfoldable pub ocean_at : XGridLists → List Flow → (categories n : ℕ) → Taken

@@ -1,7 +1,6 @@
 -- The tables that flows are looked up in: the links of the rows, the areas of the elements, the parts of the surface and the skies.
 use Rattle.std.specs.Prelude.{◌≡◌, ◌≢◌, ℕ, zero, suc, ◌+◌, ◌*◌, ◌<◌, ◌≤◌, List, map, take, length, ℤ, pos, ◌+ℤ◌, ◌≤ℤ◌, slice_index_or, slice_range, All}
 use Rattle.cpl_fixed.specs.Amounts.{at}
-use Rattle.cpl_fixed.specs.Shares.{part_of}
 use Rattle.cpl_fixed.specs.Totals.{total_of}
 use Rattle.cpl_fixed.specs.declared.limits.TheConstants.{MOST_AREA, MOST_TOTAL}
 use Rattle.cpl_fixed.specs.declared.rates.Rates.{Rates}
@@ -76,16 +75,12 @@ parts_of links parts width m = slice_range parts ((link_at links m).surface * wi
 abbrev pub side_of : (heat vapour area : List ℤ) → ℕ → AirSide
 side_of heat vapour area n = record { heat = at heat n; vapour = at vapour n; area = at area n }
 
--- its sky, where the sun of the month has this strength
-abbrev pub sky_under : Rates → (strength sun : ℤ) → AirSide → Sky
-sky_under rates strength sun air = record {
-  air = air;
-  weather = weather rates air;
-  sun = part_of sun strength (pos 1_000);
-}
+-- its sky
+abbrev pub sky_under : Rates → AirSide → Sky
+sky_under rates air = record { air = air; weather = weather rates air }
 
-abbrev pub sky_by : Rates → (strength : ℤ) → (heat vapour area sun : List ℤ) → ℕ → Sky
-sky_by rates strength heat vapour area sun n = sky_under rates strength (at sun n) (side_of heat vapour area n)
+abbrev pub sky_by : Rates → (heat vapour area : List ℤ) → ℕ → Sky
+sky_by rates heat vapour area n = sky_under rates (side_of heat vapour area n)
 
 -- PARTS
 

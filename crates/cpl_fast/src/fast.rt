@@ -1,12 +1,13 @@
 // The fast step.
 ghost use Rattle.std.specs.Prelude.{◌≡◌};
 ghost use Rattle.cpl_restart.specs.FastLaws.{CanStep, KeepsAll};
-ghost use Rattle.cpl_restart.specs.FastStep.{entered, fast_after, gave, left, took};
+ghost use Rattle.cpl_restart.specs.FastStep.{entered, fast_after, gave, left, rain_on, took};
+ghost use Rattle.cpl_xgrid.specs.declared.parts.Surface.TheVariants.{Land, Ocean};
 ghost use Rattle.cpl_fast.specs.Rooms.{IsDivided, before_step};
-ghost use Rattle.cpl_fast.specs.Stages.{HasAir, HasIce, HasLand, HoldsLists, step_of, with_lists};
+ghost use Rattle.cpl_fast.specs.Stages.{HasAir, HasFlows, HoldsAir, given, step_of, with_air};
 
 use crate::room::FastRoom;
-use crate::stages::View;
+use crate::stages::{Given, View};
 use cpl_fixed::Rates;
 use cpl_restart::Mid;
 use cpl_xgrid::Grid;
@@ -21,12 +22,12 @@ pub struct FastTally {
     pub took: [i128; 4],
 }
 
-/// A fast step, in a room in which the areas of this state stand: what flows between the air and the surface through every element,
-/// all by the state before the step; then the cells of the air, with rain and diffusion, of the land and of the ice. It takes no
-/// memory. The month is 1 to 12. The formulas are defined by this project.
+/// A fast step, in a room in which the areas of this state and the sun that its elements absorb stand: what flows between the air and
+/// the surface through every element, all by the state before the step; then the cells of the air, with rain and diffusion, of the land
+/// and of the ice. It takes no memory. The month is 1 to 12. The formulas are defined by this project.
 pub fn step(grid: &Grid, rates: &Rates, month: u32, mid: &mut Mid, room: &mut FastRoom) -> FastTally
     requires can { CanStep (before_step grid.now rates.now month mid.old) }
-    requires room { IsDivided grid.now mid.old.whole room.old }
+    requires room { IsDivided (before_step grid.now rates.now month mid.old) room.old }
     ensures value { mid.new ≡ fast_after (before_step grid.now rates.now month mid.old) }
     ensures entered { result.entered ≡ entered (before_step grid.now rates.now month mid.old) }
     ensures left { result.left ≡ left (before_step grid.now rates.now month mid.old) }
@@ -35,77 +36,61 @@ pub fn step(grid: &Grid, rates: &Rates, month: u32, mid: &mut Mid, room: &mut Fa
     // Nothing is lost between air and surface.
     ensures exchange { result.gave ≡ result.took }
     ensures keeps { KeepsAll (before_step grid.now rates.now month mid.old) }
-    ensures room { IsDivided grid.now mid.new.whole room.new }
+    ensures room { IsDivided (before_step grid.now rates.now month mid.new) room.new }
 {
-    let tally = room.fill(&View {
+    let (left, given) = room.fill(&View {
         grid,
         rates,
         month,
         mid,
     });
-    room.swap(mid);
-    tally
+    room.swap_air(mid);
+    let land = room.take_on_land(grid, mid);
+    let ice = room.take_on_ice(grid, mid);
+    FastTally {
+        entered: given.entered,
+        left,
+        gave: [
+            given.land.heat,
+            given.land.water,
+            given.ocean.heat,
+            given.ocean.water,
+        ],
+        took: [land.heat, land.water, ice.heat, ice.water],
+    }
 }
 
 impl FastRoom {
-    // The numbers after the step, and what it moved. They stand in the room.
-    fn fill(&mut self, view: &View) -> FastTally
+    // What flows, and the air after the step. They stand in the room. The results are the heat to space, and what the air moved.
+    fn fill(&mut self, view: &View) -> (i64, Given)
         requires can { CanStep (step_of view.now) }
-        requires room { IsDivided view.now.grid.now view.now.mid.now.whole self.old }
-        ensures room { IsDivided view.now.grid.now view.now.mid.now.whole self.new }
+        requires room { IsDivided (step_of view.now) self.old }
+        ensures flows { HasFlows (step_of view.now) (rain_on (step_of view.now)) self.new }
         ensures air { HasAir (step_of view.now) self.new }
-        ensures land { HasLand (step_of view.now) self.new }
-        ensures ice { HasIce (step_of view.now) self.new }
-        ensures entered { result.entered ≡ entered (step_of view.now) }
-        ensures left { result.left ≡ left (step_of view.now) }
-        ensures gave { result.gave ≡ gave (step_of view.now) }
-        ensures took { result.took ≡ took (step_of view.now) }
-        ensures keeps { KeepsAll (step_of view.now) }
+        ensures left { result.0 ≡ left (step_of view.now) }
+        ensures entered { result.1.entered ≡ entered (step_of view.now) }
+        ensures land { result.1.land ≡ given (step_of view.now) Land }
+        ensures ocean { result.1.ocean ≡ given (step_of view.now) Ocean }
     {
         // The contracts of `cells` have the laws of numbers.
         let _airs = view.grid.air.mosaic.cells();
         let _lands = view.grid.land.mosaic.cells();
         let _oceans = view.grid.ocean.mosaic.cells();
         self.look(view.grid, view.rates, view.month, view.mid);
-        self.flow(view);
+        let flown = self.flow(view);
         let left = self.let_rain(view);
-        let given = self.rain_down(view);
+        let given = self.rain_down(view, &flown);
         self.diffuse(view);
-        let land = self.take_on_land(view);
-        let ice = self.take_on_ice(view);
-        FastTally {
-            entered: given.entered,
-            left,
-            gave: [
-                given.land.heat,
-                given.land.water,
-                given.ocean.heat,
-                given.ocean.water,
-            ],
-            took: [land.heat, land.water, ice.heat, ice.water],
-        }
+        (left, given)
     }
 
-    // The numbers after the step change places with those of the state.
-    fn swap(&mut self, mid: &mut Mid)
-        ensures mid { mid.new ≡ with_lists mid.old self.old }
-        ensures lists { HoldsLists mid.old self.new }
-        ensures others { self.new ≡ record self.old {
-          air_heat = self.new.air_heat;
-          air_vapour = self.new.air_vapour;
-          land_heat = self.new.land_heat;
-          land_water = self.new.land_water;
-          ice_heat = self.new.ice_heat;
-          skin_water = self.new.skin_water;
-          skin_heat = self.new.skin_heat;
-        } }
+    // The air after the step changes places with that of the state.
+    fn swap_air(&mut self, mid: &mut Mid)
+        ensures mid { mid.new ≡ with_air mid.old self.old }
+        ensures air { HoldsAir mid.old self.new }
+        ensures others { self.new ≡ record self.old { air_heat = self.new.air_heat; air_vapour = self.new.air_vapour } }
     {
         mid.whole.air_heat.swap(&mut self.air_heat);
         mid.whole.air_vapour.swap(&mut self.air_vapour);
-        mid.whole.land_heat.swap(&mut self.land_heat);
-        mid.whole.land_water.swap(&mut self.land_water);
-        mid.whole.ice_heat.swap(&mut self.ice_heat);
-        mid.skin_water.swap(&mut self.skin_water);
-        mid.skin_heat.swap(&mut self.skin_heat);
     }
 }

@@ -1,26 +1,25 @@
 // What flows through the elements of a list.
-ghost use Rattle.std.specs.Prelude.{◌≡◌, ◌≢◌, ℕ, ◌+◌, ◌*◌, ◌<◌, ◌≤◌, length, pos, ◌≤ℤ◌, ◌+ℤ◌};
-ghost use Rattle.cpl_fixed.specs.Ranges.{AreRates, IsFromℤ};
+ghost use Rattle.std.specs.Prelude.{◌≡◌, ◌≢◌, ℕ, ◌+◌, ◌*◌, ◌<◌, ◌≤◌, length, pos};
+ghost use Rattle.cpl_fixed.specs.Amounts.{IsAmount};
+ghost use Rattle.cpl_fixed.specs.Ranges.{AreRates};
 ghost use Rattle.cpl_flux.specs.Elements.{IsPart, IsElement};
 ghost use Rattle.cpl_flux.specs.declared.temperatures.TheConstants.{HOTTEST};
-ghost use Rattle.cpl_restart.specs.FastStep.{albedo};
-ghost use Rattle.cpl_fast.specs.Sums.{AreClear, IsClear};
-ghost use Rattle.cpl_fast.specs.Flows.{ArePortions, CanFlow, IsSky, area_in, before_in, flow_at, flow_in, flow_through, link_at, part_in, sky_of};
+ghost use Rattle.cpl_fast.specs.Rain.{in_list};
+ghost use Rattle.cpl_fast.specs.Sums.{AreClear, AreSmall, IsClear, SumsAre};
+ghost use Rattle.cpl_fast.specs.Flows.{ArePortions, CanFlow, IsInCell, IsSky, area_in, before_in, flow_again, flow_at, flow_in, flow_through, link_at, part_in, sky_of};
 ghost use Rattle.cpl_fast.specs.Places.{place_in};
 
 use crate::layout::place_in;
-use crate::numbers::part_of;
 use crate::portions::Portions;
+use crate::sums::{Sums, row_sums};
 use cpl_fixed::Rates;
 use cpl_flux::{AirSide, Part, Weather, element_between};
-use cpl_xgrid::Surface;
 
-/// A cell of the air before the step, with what all its elements see of it: its weather, and the sun of the month.
+/// A cell of the air before the step, with what all its elements see of it: its weather.
 #[derive(Clone, Copy)]
 pub struct Sky {
     pub air: AirSide,
     pub weather: Weather,
-    pub sun: i64,
 }
 
 /// A part of the surface before the step, with its temperature.
@@ -80,7 +79,9 @@ impl Tables {
     // The area of the k-th element of a row.
     #[inline]
     pub(crate) fn area(&self, row: usize, k: usize) -> i64
-        requires { row * self.now.width + k < length self.now.areas.items }
+        requires row { row < length self.now.links.items }
+        requires element { k < self.now.width }
+        requires areas { length self.now.areas.items ≡ length self.now.links.items * self.now.width }
         ensures { result ≡ area_in self.now row k }
     {
         self.areas[row * self.width + k]
@@ -107,47 +108,31 @@ impl Tables {
     {
         self.parts[place_in(self.cells, self.link(row).surface as usize, k)]
     }
-}
 
-// What the k-th part of a cell throws back of the sun.
-#[inline]
-fn albedo(rates: &Rates, list: Surface, k: usize) -> i64
-    requires { AreRates rates.now }
-    ensures value { result ≡ albedo rates.now list k }
-    ensures range { IsFromℤ 0 1_000 result }
-{
-    match list {
-        Surface::Land => rates.land_albedo,
-        Surface::Ocean if k == 0 => rates.water_albedo,
-        Surface::Ocean => rates.ice_albedo,
+    // The shares of an amount over the elements of a row, from its first on, where its cell of the air has this area.
+    #[inline]
+    pub(crate) fn portions(&self, row: usize, amount: i64, area: i64) -> Portions
+        requires amount { IsAmount amount }
+        requires cell { IsInCell area self.now row 0 }
+        requires row { row < length self.now.links.items }
+        ensures portions { ArePortions result }
+        ensures amount { result.amount ≡ amount }
+        ensures whole { result.whole ≡ area }
+        ensures from { result.from ≡ before_in self.now row 0 }
+    {
+        Portions::new(amount, self.link(row).before, area)
     }
 }
 
-/// What flows through an element of the area `b`, before it rains. `portions` are the shares of the sun from this element on.
+/// What flows through an element of the area `b` that absorbs this sun, before it rains.
 #[inline]
-pub fn flow_through(
-    rates: &Rates,
-    sky: &Sky,
-    warm: &WarmPart,
-    albedo: i64,
-    b: i64,
-    portions: &mut Portions,
-) -> Flow
+pub fn flow_through(rates: &Rates, sky: &Sky, warm: &WarmPart, b: i64, sun: i64) -> Flow
     requires rates { AreRates rates.now }
     requires sky { IsSky sky.now }
     requires part { IsPart warm.now.part }
     requires temperature { warm.now.temperature ≤ HOTTEST }
     requires element { IsElement sky.now.air warm.now.part b }
-    requires albedo { IsFromℤ 0 1_000 albedo }
-    requires portions { ArePortions portions.old }
-    requires sun { portions.old.amount ≡ sky.now.sun }
-    requires whole { portions.old.whole ≡ sky.now.air.area }
-    requires within { (portions.old.from +ℤ b) ≤ℤ portions.old.whole }
-    ensures value { result ≡ flow_through rates.now sky.now warm.now albedo b portions.old.from }
-    ensures portions { ArePortions portions.new }
-    ensures amount { portions.new.amount ≡ portions.old.amount }
-    ensures whole { portions.new.whole ≡ portions.old.whole }
-    ensures from { portions.new.from ≡ portions.old.from +ℤ b }
+    ensures { result ≡ flow_through rates.now sky.now warm.now b sun }
 {
     let flux = element_between(
         rates,
@@ -157,98 +142,72 @@ pub fn flow_through(
         warm.temperature,
         b,
     );
-    let share = portions.next(b);
     Flow {
         heat: flux.heat,
         water: flux.water,
-        sun: part_of(share, 1_000 - albedo, 1_000),
+        sun,
         rain: 0,
     }
 }
 
-// What flows through the k-th element of a row, which has an area, before it rains. `portions` are the shares of the sun from this
-// element on.
+// What flows through the k-th element of a row, which has an area and absorbs this sun, before it rains.
 #[inline]
-fn element_flow(
-    rates: &Rates,
-    list: Surface,
-    sky: &Sky,
-    tables: &Tables,
-    row: usize,
-    k: usize,
-    portions: &mut Portions,
-) -> Flow
+fn element_flow(rates: &Rates, sky: &Sky, tables: &Tables, row: usize, k: usize, sun: i64) -> Flow
     requires rates { AreRates rates.now }
     requires can { CanFlow sky.now tables.now row k }
     requires wide { area_in tables.now row k ≢ pos 0 }
     requires row { row < length tables.now.links.items }
     requires element { k < tables.now.width }
     requires areas { length tables.now.areas.items ≡ length tables.now.links.items * tables.now.width }
-    requires portions { ArePortions portions.old }
-    requires sun { portions.old.amount ≡ sky.now.sun }
-    requires whole { portions.old.whole ≡ sky.now.air.area }
-    requires from { portions.old.from ≡ before_in tables.now row k }
-    ensures value { result ≡ flow_in rates.now list sky.now tables.now row k }
-    ensures portions { ArePortions portions.new }
-    ensures amount { portions.new.amount ≡ portions.old.amount }
-    ensures whole { portions.new.whole ≡ portions.old.whole }
-    ensures from { portions.new.from ≡ before_in tables.now row (k + 1) }
+    ensures { result ≡ flow_in rates.now sky.now tables.now row k sun }
 {
     let b = tables.area(row, k);
-    let albedo = albedo(rates, list, k);
-    flow_through(rates, sky, &tables.part(row, k), albedo, b, portions)
+    flow_through(rates, sky, &tables.part(row, k), b, sun)
 }
 
-// What flows through the elements of a row, before it rains. Those of the area 0 are passed over: nothing flows through them.
-fn row_flows(
-    rates: &Rates,
-    list: Surface,
-    sky: &Sky,
-    tables: &Tables,
-    row: usize,
-    flows: &mut [Flow],
-)
+// What flows through the elements of a row, before it rains. The sun that they absorb stands. Those of the area 0 are passed over:
+// nothing flows through them.
+fn row_flows(rates: &Rates, sky: &Sky, tables: &Tables, row: usize, flows: &mut [Flow])
     requires rates { AreRates rates.now }
     requires can { (k : ℕ) → k < tables.now.width → CanFlow sky.now tables.now row k }
     requires row { row < length tables.now.links.items }
-    requires some { 0 < tables.now.width }
     requires flows { length flows.old ≡ length tables.now.links.items * tables.now.width }
     requires areas { length tables.now.areas.items ≡ length tables.now.links.items * tables.now.width }
     requires clear { IsClear tables.now flows.old row }
-    ensures row { (k : ℕ) → k < tables.now.width → flow_at flows.new (place_in (length tables.now.links.items) row k) ≡ flow_in rates.now list sky.now tables.now row k }
+    ensures row { (k : ℕ) → k < tables.now.width → flow_at flows.new (place_in (length tables.now.links.items) row k) ≡ flow_again rates.now sky.now tables.now flows.old row k }
     ensures others { (r k : ℕ) → r < length tables.now.links.items → r ≢ row
         → flow_at flows.new (place_in (length tables.now.links.items) r k) ≡ flow_at flows.old (place_in (length tables.now.links.items) r k) }
 {
-    let link = tables.link(row);
-    let mut portions = Portions::new(sky.sun, link.before, sky.air.area);
     for k in 0..tables.width {
         if tables.area(row, k) != 0 {
-            let flow = element_flow(rates, list, sky, tables, row, k, &mut portions);
-            flows[tables.place(row, k)] = flow;
+            let place = tables.place(row, k);
+            let flow = element_flow(rates, sky, tables, row, k, flows[place].sun);
+            flows[place] = flow;
         }
     }
 }
 
-/// What flows through the elements of all rows of a list, before it rains.
-pub(crate) fn list_flows(
-    rates: &Rates,
-    list: Surface,
-    skies: &[Sky],
-    tables: &Tables,
-    flows: &mut [Flow],
-)
+/// What flows through the elements of all rows of a list, before it rains. The sun that they absorb stands. It returns the sums over all
+/// of them.
+pub(crate) fn list_flows(rates: &Rates, skies: &[Sky], tables: &Tables, flows: &mut [Flow]) -> Sums
     requires rates { AreRates rates.now }
     requires airs { (row : ℕ) → row < length tables.now.links.items → (link_at tables.now.links.items row).air < length skies.now }
     requires can { (row k : ℕ) → row < length tables.now.links.items → k < tables.now.width → CanFlow (sky_of skies.now tables.now row) tables.now row k }
-    requires some { 0 < tables.now.width }
+    requires width { tables.now.width ≤ 6 }
+    requires few { length tables.now.links.items ≤ 1_048_576 }
     requires flows { length flows.old ≡ length tables.now.links.items * tables.now.width }
     requires areas { length tables.now.areas.items ≡ length tables.now.links.items * tables.now.width }
     requires clear { AreClear tables.now flows.old }
-    ensures { (row k : ℕ) → row < length tables.now.links.items → k < tables.now.width
-        → flow_at flows.new (place_in (length tables.now.links.items) row k) ≡ flow_in rates.now list (sky_of skies.now tables.now row) tables.now row k }
+    ensures flows { (row k : ℕ) → row < length tables.now.links.items → k < tables.now.width
+        → flow_at flows.new (place_in (length tables.now.links.items) row k) ≡ flow_again rates.now (sky_of skies.now tables.now row) tables.now flows.old row k }
+    ensures sums { SumsAre result (in_list flows.new (length tables.now.links.items) tables.now.width) }
+    ensures small { AreSmall (6 * length tables.now.links.items) result }
 {
+    let mut sums = Sums::none();
     for row in 0..tables.links.len() {
         let sky = &skies[tables.link(row).air as usize];
-        row_flows(rates, list, sky, tables, row, flows);
+        row_flows(rates, sky, tables, row, flows);
+        sums.join(&row_sums(tables, flows, row));
     }
+    sums
 }

@@ -1,10 +1,9 @@
 // The cells of the land after a fast step.
-ghost use Rattle.std.specs.Prelude.{◌≡◌, ℕ, ◌*◌, ◌<◌, ◌≤◌, ◌^◌, length};
+ghost use Rattle.std.specs.Prelude.{◌≡◌, ℕ, ◌*◌, ◌<◌, ◌^◌, length};
 ghost use Rattle.cpl_fixed.specs.Amounts.{at};
-ghost use Rattle.cpl_fixed.specs.declared.limits.TheConstants.{MOST_CELLS};
 ghost use Rattle.cpl_mosaic.specs.Contacts.{cells_of};
 ghost use Rattle.cpl_xgrid.specs.declared.parts.Surface.TheVariants.{Land};
-ghost use Rattle.cpl_fast.specs.Surfaces.{AreRowsOf, CanGainLand, land_at, land_sums, taken_to};
+ghost use Rattle.cpl_fast.specs.Surfaces.{AreRowsOf, CanGainLand, CanTakeLand, land_at, land_sums, taken_to};
 ghost use Rattle.cpl_fast.specs.Sums.{AreSmall, IsSmallTaken};
 
 use crate::flows::Flow;
@@ -37,28 +36,21 @@ fn land_cell(xgrid: &XGrid, flows: &[Flow], n: u32, heat: i64, water: i64) -> Af
     gain(heat, water, taken_by(&sums), sums.sun)
 }
 
-// The heat and the water of all cells of the land, and what they take from the air.
+// The land takes what flowed: the heat and the water of all cells. The result is what they took from the air.
 pub(crate) fn land_lists(
     xgrid: &XGrid,
     flows: &[Flow],
-    old_heat: &[i64],
-    old_water: &[i64],
     heat: &mut [i64],
     water: &mut [i64],
 ) -> Taken
-    requires cells { length old_heat.now ≡ cells_of xgrid.now.land }
-    requires few { length old_heat.now ≤ MOST_CELLS }
-    requires can { (n : ℕ) → n < length old_heat.now → CanGainLand xgrid.now flows.now (at old_heat.now n) (at old_water.now n) n }
-    requires old_water { length old_water.now ≡ length old_heat.now }
-    requires heat { length heat.old ≡ length old_heat.now }
-    requires water { length water.old ≡ length old_heat.now }
-    ensures heat { (n : ℕ) → n < length old_heat.now → at heat.new n ≡ (land_at xgrid.now flows.now (at old_heat.now n) (at old_water.now n) n).heat }
-    ensures water { (n : ℕ) → n < length old_heat.now → at water.new n ≡ (land_at xgrid.now flows.now (at old_heat.now n) (at old_water.now n) n).water }
-    ensures taken { result ≡ taken_to (length old_heat.now) (λ n. (land_at xgrid.now flows.now (at old_heat.now n) (at old_water.now n) n).taken) }
+    requires { CanTakeLand xgrid.now flows.now heat.old water.old }
+    ensures heat { (n : ℕ) → n < length heat.old → at heat.new n ≡ (land_at xgrid.now flows.now (at heat.old n) (at water.old n) n).heat }
+    ensures water { (n : ℕ) → n < length heat.old → at water.new n ≡ (land_at xgrid.now flows.now (at heat.old n) (at water.old n) n).water }
+    ensures taken { result ≡ taken_to (length heat.old) (λ n. (land_at xgrid.now flows.now (at heat.old n) (at water.old n) n).taken) }
 {
     let mut all = Taken::none();
-    for n in 0..old_heat.len() {
-        let after = land_cell(xgrid, flows, n as u32, old_heat[n], old_water[n]);
+    for n in 0..heat.len() {
+        let after = land_cell(xgrid, flows, n as u32, heat[n], water[n]);
         heat[n] = after.heat;
         water[n] = after.water;
         all.add(&after.taken);

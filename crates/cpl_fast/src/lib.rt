@@ -16,6 +16,7 @@ mod rain;
 mod room;
 mod stages;
 mod sums;
+mod suns;
 mod surface;
 mod tables;
 

@@ -68,7 +68,7 @@ impl FastRoom {
     // The skies of the cells of the air before a step.
     fn look_up(&mut self, grid: &Grid, rates: &Rates, month: u32, mid: &Mid)
         requires can { CanStep (before_step grid.now rates.now month mid.now) }
-        requires room { IsDivided grid.now mid.now.whole self.old }
+        requires room { IsDivided (before_step grid.now rates.now month mid.now) self.old }
         ensures skies { AreSkies (before_step grid.now rates.now month mid.now) self.new.skies.items }
         ensures room { self.new ≡ record self.old { skies = self.new.skies } }
     {
@@ -76,13 +76,12 @@ impl FastRoom {
         let _airs = grid.air.mosaic.cells();
         let _lands = grid.land.mosaic.cells();
         let _oceans = grid.ocean.mosaic.cells();
+        let _month = month;
         fill_skies(
             rates,
-            rates.month[month as usize - 1],
             mid.whole.air_heat.as_slice(),
             mid.whole.air_vapour.as_slice(),
             grid.air.area.as_slice(),
-            mid.whole.air_sun.as_slice(),
             &mut self.skies,
         );
     }
@@ -90,11 +89,11 @@ impl FastRoom {
     // The skies and the parts of the surface before a step.
     pub(crate) fn look(&mut self, grid: &Grid, rates: &Rates, month: u32, mid: &Mid)
         requires can { CanStep (before_step grid.now rates.now month mid.now) }
-        requires room { IsDivided grid.now mid.now.whole self.old }
+        requires room { IsDivided (before_step grid.now rates.now month mid.now) self.old }
         ensures land { AreTables (before_step grid.now rates.now month mid.now) Land self.new.land }
         ensures ocean { AreTables (before_step grid.now rates.now month mid.now) Ocean self.new.ocean }
         ensures skies { AreSkies (before_step grid.now rates.now month mid.now) self.new.skies.items }
-        ensures room { IsDivided grid.now mid.now.whole self.new }
+        ensures room { IsDivided (before_step grid.now rates.now month mid.now) self.new }
     {
         self.look_up(grid, rates, month, mid);
         self.land

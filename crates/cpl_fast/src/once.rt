@@ -31,6 +31,6 @@ pub fn fast_step(
     ensures memory { OnErr result (mid.new ≡ mid.old) }
 {
     let mut room = FastRoom::new(alloc, grid)?;
-    room.divide(grid, &mid.whole);
+    room.divide(grid, &names.rates, month, mid);
     Ok(step(grid, &names.rates, month, mid, &mut room))
 }

@@ -1,17 +1,21 @@
 // Room for fast steps.
-ghost use Rattle.std.specs.Prelude.{◌≡◌, ℕ, ◌<◌, length, IfOk};
-ghost use Rattle.cpl_fast.specs.Flows.{flow_at, no_flow};
+ghost use Rattle.std.specs.Prelude.{◌≡◌, ℕ, ◌*◌, ◌≤◌, length, IfOk};
+ghost use Rattle.cpl_fixed.specs.declared.limits.TheConstants.{MOST_EXCHANGE_CELLS};
 ghost use Rattle.cpl_restart.specs.Diffusion.{IsAirMesh};
+ghost use Rattle.cpl_restart.specs.FastLaws.{CanStep};
 ghost use Rattle.cpl_restart.specs.States.{IsWhole};
 ghost use Rattle.cpl_xgrid.specs.Grids.{IsGrid};
-ghost use Rattle.cpl_fast.specs.Rooms.{IsDivided, IsFastRoom};
+ghost use Rattle.cpl_fast.specs.Flows.{flow_at, no_flow};
+ghost use Rattle.cpl_fast.specs.Rooms.{HasAreas, IsDivided, IsFastRoom, IsStillRoom, before_step};
 
 use crate::flows::{Flow, NO_FLOW, Sky, Tables};
+use crate::suns::{list_still, list_suns};
 use crate::tables::{GridLinks, links_of, sum_land_areas, sum_ocean_areas};
 use cpl_diffusion::{Room, Ways, make_room, make_ways};
+use cpl_fixed::Rates;
 use cpl_flux::{AirSide, Weather};
-use cpl_restart::Whole;
-use cpl_xgrid::Grid;
+use cpl_restart::{Mid, Whole};
+use cpl_xgrid::{Grid, Surface};
 use std::alloc::{AllocError, Global};
 
 // What stands in the skies before a step has filled them.
@@ -25,11 +29,10 @@ const NO_SKY: Sky = Sky {
         temperature: 0,
         humidity: 0,
     },
-    sun: 0,
 };
 
 /// Room for the fast steps of a run over a grid: the faces of the air, the links of the exchange cells, and every list that a step
-/// writes to. It is made once and lent to each step, which then takes no memory.
+/// works with. It is made once and lent to each step, which then takes no memory.
 #[derive(Drop)]
 pub struct FastRoom {
     pub(crate) ways: Ways,
@@ -44,9 +47,10 @@ pub struct FastRoom {
     pub(crate) ocean_flows: Vec<Flow>,
     pub(crate) skies: Vec<Sky>,
     pub(crate) rain: Vec<i64>,
-    // The numbers after the step, which change places with those of the state.
+    // The air after the step, which changes places with that of the state.
     pub(crate) air_heat: Vec<i64>,
     pub(crate) air_vapour: Vec<i64>,
+    // The lists of the land and of the ice, while they take what flowed. They hold no memory at any other time.
     pub(crate) land_heat: Vec<i64>,
     pub(crate) land_water: Vec<i64>,
     pub(crate) ice_heat: Vec<i64>,
@@ -54,13 +58,14 @@ pub struct FastRoom {
     pub(crate) skin_heat: Vec<i64>,
 }
 
-// Nothing flows through any element.
-fn clear(flows: &mut [Flow])
-    ensures { (n : ℕ) → n < length flows.old → flow_at flows.new n ≡ no_flow }
+// The flows of so many elements, through which nothing flows yet.
+fn no_flows(alloc: Global, count: usize) -> Result<Vec<Flow>, AllocError>
+    requires { count ≤ 6 * MOST_EXCHANGE_CELLS }
+    ensures count { IfOk result (λ flows. length flows.items ≡ count) }
+    ensures none { IfOk result (λ flows. (n : ℕ) → flow_at flows.items n ≡ no_flow) }
 {
-    for n in 0..flows.len() {
-        flows[n] = NO_FLOW;
-    }
+    let flows = vec![in alloc; NO_FLOW; count]?;
+    Ok(flows)
 }
 
 impl FastRoom {
@@ -84,32 +89,45 @@ impl FastRoom {
             ocean: Tables::new(alloc, ocean, oceans, width)?,
             land_area: vec![in alloc; 0; lands as usize]?,
             ocean_area: vec![in alloc; 0; oceans as usize * width]?,
-            land_flows: vec![in alloc; NO_FLOW; land_rows]?,
-            ocean_flows: vec![in alloc; NO_FLOW; ocean_rows * width]?,
+            land_flows: no_flows(alloc, land_rows)?,
+            ocean_flows: no_flows(alloc, ocean_rows * width)?,
             skies: vec![in alloc; NO_SKY; airs as usize]?,
             rain: vec![in alloc; 0; airs as usize]?,
             air_heat: vec![in alloc; 0; airs as usize]?,
             air_vapour: vec![in alloc; 0; airs as usize]?,
-            land_heat: vec![in alloc; 0; lands as usize]?,
-            land_water: vec![in alloc; 0; lands as usize]?,
-            ice_heat: vec![in alloc; 0; categories * oceans as usize]?,
-            skin_water: vec![in alloc; 0; oceans as usize]?,
-            skin_heat: vec![in alloc; 0; oceans as usize]?,
+            land_heat: Vec::new(alloc),
+            land_water: Vec::new(alloc),
+            ice_heat: Vec::new(alloc),
+            skin_water: Vec::new(alloc),
+            skin_heat: Vec::new(alloc),
         })
     }
 
-    /// Sets the areas of the elements and of the parts of a state, and lets nothing flow yet. They change with the parts of the ice alone, so that this is done
-    /// once before the fast steps of a coupling step. It takes no memory.
-    pub fn divide(&mut self, grid: &Grid, whole: &Whole)
+    /// Sets what stays through the fast steps of a coupling step: the areas of the elements and of the parts, which change with the parts
+    /// of the ice alone, and the sun that the elements absorb in this month, 1 to 12. Nothing else flows yet. It takes no memory.
+    pub fn divide(&mut self, grid: &Grid, rates: &Rates, month: u32, mid: &Mid)
+        requires room { IsFastRoom grid.now self.old }
+        requires can { CanStep (before_step grid.now rates.now month mid.now) }
+        ensures { IsDivided (before_step grid.now rates.now month mid.now) self.new }
+    {
+        self.set_areas(grid, &mid.whole);
+        self.set_suns(grid, rates, month, mid);
+    }
+
+    // Lets nothing flow any more, and sets the areas of the elements and of the parts of a state.
+    fn set_areas(&mut self, grid: &Grid, whole: &Whole)
         requires room { IsFastRoom grid.now self.old }
         requires grid { IsGrid grid.now }
         requires whole { IsWhole grid.now whole.now }
-        ensures { IsDivided grid.now whole.now self.new }
+        ensures room { IsStillRoom grid.now self.new }
+        ensures areas { HasAreas grid.now whole.now self.new }
     {
         // The contracts of `cells` have the laws of numbers.
         let _airs = grid.air.mosaic.cells();
         let _lands = grid.land.mosaic.cells();
         let oceans = grid.ocean.mosaic.cells();
+        list_still(&self.land, &mut self.land_flows);
+        list_still(&self.ocean, &mut self.ocean_flows);
         self.land.divide_land(grid, whole);
         self.ocean.divide_ocean(grid, whole);
         sum_land_areas(&grid.xgrid, &self.land.areas, &mut self.land_area);
@@ -120,7 +138,38 @@ impl FastRoom {
             self.ocean.width,
             &mut self.ocean_area,
         );
-        clear(&mut self.land_flows);
-        clear(&mut self.ocean_flows);
+    }
+
+    // Sets the sun that the elements absorb, where the areas of the state stand and nothing flows yet.
+    fn set_suns(&mut self, grid: &Grid, rates: &Rates, month: u32, mid: &Mid)
+        requires can { CanStep (before_step grid.now rates.now month mid.now) }
+        requires room { IsStillRoom grid.now self.old }
+        requires areas { HasAreas grid.now mid.now.whole self.old }
+        ensures { IsDivided (before_step grid.now rates.now month mid.now) self.new }
+    {
+        // The contracts of `cells` have the laws of numbers.
+        let _airs = grid.air.mosaic.cells();
+        let _lands = grid.land.mosaic.cells();
+        let _oceans = grid.ocean.mosaic.cells();
+        let strength = rates.month[month as usize - 1];
+        let (sun, area) = (mid.whole.air_sun.as_slice(), grid.air.area.as_slice());
+        list_suns(
+            rates,
+            Surface::Land,
+            strength,
+            sun,
+            area,
+            &self.land,
+            &mut self.land_flows,
+        );
+        list_suns(
+            rates,
+            Surface::Ocean,
+            strength,
+            sun,
+            area,
+            &self.ocean,
+            &mut self.ocean_flows,
+        );
     }
 }

@@ -2,17 +2,17 @@
 ghost use Rattle.std.specs.Prelude.{◌≡◌};
 ghost use Rattle.cpl_xgrid.specs.declared.parts.Surface.TheVariants.{Land, Ocean};
 ghost use Rattle.cpl_restart.specs.FastStep.{entered, left, rain_on};
-ghost use Rattle.cpl_fast.specs.Stages.{HasAir, HasFlows, HasRained, IsSeen, dry, given, step_of};
+ghost use Rattle.cpl_fast.specs.Stages.{HasAir, HasFlows, HasRained, IsFlown, IsSeen, dry, given, step_of};
 
 use crate::air::air_lists;
 use crate::flows::list_flows;
 use crate::rain::list_rain;
 use crate::room::FastRoom;
-use crate::sums::{Taken, taken_by};
+use crate::sums::{Sums, Taken, taken_by};
 use cpl_diffusion::diffuse;
 use cpl_fixed::Rates;
 use cpl_restart::Mid;
-use cpl_xgrid::{Grid, Surface};
+use cpl_xgrid::Grid;
 
 /// What a fast step goes by: the grid, the rates, the month, 1 to 12, and the state before the step.
 #[derive(Clone, Copy)]
@@ -21,6 +21,13 @@ pub(crate) struct View<'a> {
     pub(crate) rates: &'a Rates,
     pub(crate) month: u32,
     pub(crate) mid: &'a Mid,
+}
+
+/// What flowed through all elements of either list, before it rained.
+#[derive(Clone, Copy)]
+pub(crate) struct Flown {
+    pub(crate) land: Sums,
+    pub(crate) ocean: Sums,
 }
 
 /// What the cells of the air moved: the sun that was absorbed, and what they gave to the elements of both lists.
@@ -32,25 +39,15 @@ pub(crate) struct Given {
 }
 
 impl FastRoom {
-    // What flows through all elements, before it rains.
-    pub(crate) fn flow(&mut self, view: &View)
+    // What flows through all elements, before it rains. The result has the sums of it.
+    pub(crate) fn flow(&mut self, view: &View) -> Flown
         requires { IsSeen (step_of view.now) self.old }
-        ensures { HasFlows (step_of view.now) dry self.new }
+        ensures flows { HasFlows (step_of view.now) dry self.new }
+        ensures flown { IsFlown (step_of view.now) result }
     {
-        list_flows(
-            view.rates,
-            Surface::Land,
-            &self.skies,
-            &self.land,
-            &mut self.land_flows,
-        );
-        list_flows(
-            view.rates,
-            Surface::Ocean,
-            &self.skies,
-            &self.ocean,
-            &mut self.ocean_flows,
-        );
+        let land = list_flows(view.rates, &self.skies, &self.land, &mut self.land_flows);
+        let ocean = list_flows(view.rates, &self.skies, &self.ocean, &mut self.ocean_flows);
+        Flown { land, ocean }
     }
 
     // The cells of the air give and take, and it rains. The result is the heat to space.
@@ -74,9 +71,10 @@ impl FastRoom {
         left as i64
     }
 
-    // The rain falls on all elements. The result is what the cells of the air gave to them.
-    pub(crate) fn rain_down(&mut self, view: &View) -> Given
+    // The rain falls on all elements. The result is what the cells of the air gave to them, by what flowed before.
+    pub(crate) fn rain_down(&mut self, view: &View, flown: &Flown) -> Given
         requires flows { HasFlows (step_of view.now) dry self.old }
+        requires flown { IsFlown (step_of view.now) flown.now }
         requires rained { HasRained (step_of view.now) self.old }
         ensures entered { result.entered ≡ entered (step_of view.now) }
         ensures land { result.land ≡ given (step_of view.now) Land }
@@ -84,8 +82,9 @@ impl FastRoom {
         ensures flows { HasFlows (step_of view.now) (rain_on (step_of view.now)) self.new }
         ensures rained { HasRained (step_of view.now) self.new }
     {
-        let land = list_rain(&self.skies, &self.rain, &self.land, &mut self.land_flows);
-        let ocean = list_rain(&self.skies, &self.rain, &self.ocean, &mut self.ocean_flows);
+        let (mut land, mut ocean) = (flown.land, flown.ocean);
+        land.rain = list_rain(&self.skies, &self.rain, &self.land, &mut self.land_flows);
+        ocean.rain = list_rain(&self.skies, &self.rain, &self.ocean, &mut self.ocean_flows);
         Given {
             entered: (land.sun + ocean.sun) as i64,
             land: taken_by(&land),

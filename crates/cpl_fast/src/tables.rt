@@ -1,8 +1,8 @@
 // The tables that flows are looked up in.
 ghost use Rattle.std.specs.Prelude.{◌≡◌, ◌≢◌, ℕ, ◌+◌, ◌*◌, ◌<◌, ◌≤◌, length, pos, ◌≤ℤ◌, IfOk, All, take};
-ghost use Rattle.cpl_fixed.specs.Amounts.{IsAmount, at};
+ghost use Rattle.cpl_fixed.specs.Amounts.{at};
 ghost use Rattle.cpl_fixed.specs.Ranges.{AreRates};
-ghost use Rattle.cpl_fixed.specs.Shares.{part_of, share};
+ghost use Rattle.cpl_fixed.specs.Shares.{share};
 ghost use Rattle.cpl_fixed.specs.Totals.{total_of};
 ghost use Rattle.cpl_fixed.specs.declared.limits.TheConstants.{MOST_CELLS};
 ghost use Rattle.cpl_mosaic.specs.Contacts.{cells_of};
@@ -19,7 +19,6 @@ ghost use Rattle.cpl_fast.specs.Tables.{AreLinked, AreLinks, CanLink, CanSumArea
 
 use crate::flows::{Link, Sky, WarmPart};
 use crate::layout::place_in;
-use crate::numbers::part_of;
 use crate::portions::Portions;
 use cpl_fixed::{MOST_TOTAL, PARTS, Rates};
 use cpl_flux::{AirSide, Kind, Part, part_temperature, weather};
@@ -57,24 +56,18 @@ pub(crate) fn list_links(
 // The skies of all cells of the air.
 pub(crate) fn fill_skies(
     rates: &Rates,
-    strength: i64,
     heat: &[i64],
     vapour: &[i64],
     area: &[i64],
-    sun: &[i64],
     skies: &mut [Sky],
 )
     requires rates { AreRates rates.now }
-    requires strength { pos 0 ≤ℤ strength }
     requires heat { length heat.now ≡ length skies.old }
     requires vapour { length vapour.now ≡ length skies.old }
     requires area { length area.now ≡ length skies.old }
-    requires sun { length sun.now ≡ length skies.old }
     requires cells { (n : ℕ) → n < length skies.old → IsAirSide (side_of heat.now vapour.now area.now n) }
-    requires least { (n : ℕ) → n < length skies.old → pos 0 ≤ℤ at sun.now n }
-    requires most { (n : ℕ) → n < length skies.old → IsAmount (part_of (at sun.now n) strength (pos 1_000)) }
     ensures count { length skies.new ≡ length skies.old }
-    ensures value { (n : ℕ) → n < length skies.old → sky_at skies.new n ≡ sky_by rates.now strength heat.now vapour.now area.now sun.now n }
+    ensures value { (n : ℕ) → n < length skies.old → sky_at skies.new n ≡ sky_by rates.now heat.now vapour.now area.now n }
 {
     for n in 0..skies.len() {
         let air = AirSide {
@@ -82,24 +75,20 @@ pub(crate) fn fill_skies(
             vapour: vapour[n],
             area: area[n],
         };
-        skies[n] = sky(rates, strength, sun[n], &air);
+        skies[n] = sky(rates, &air);
     }
 }
 
 // The sky of a cell of the air.
 #[inline]
-fn sky(rates: &Rates, strength: i64, sun: i64, air: &AirSide) -> Sky
+fn sky(rates: &Rates, air: &AirSide) -> Sky
     requires rates { AreRates rates.now }
-    requires strength { pos 0 ≤ℤ strength }
     requires air { IsAirSide air.now }
-    requires least { pos 0 ≤ℤ sun }
-    requires most { IsAmount (part_of sun strength (pos 1_000)) }
-    ensures { result ≡ sky_under rates.now strength sun air.now }
+    ensures { result ≡ sky_under rates.now air.now }
 {
     Sky {
         air: *air,
         weather: weather(rates, air),
-        sun: part_of(sun, strength, 1_000),
     }
 }
 

@@ -1,5 +1,5 @@
 use Rattle.std.proofs.Common.{◌≡◌}
-use Rattle.cpl_restart.specs.CouplingStep.{fast_by}
+use Rattle.cpl_restart.specs.CouplingStep.{before, fast_by}
 use Rattle.cpl_fast.specs.Rooms.{IsDivided}
 use Rattle.cpl_couple.specs.Tallies.{fast_sums}
 use Rattle.cpl_couple.proofs.surface.go_fast.Given as goal
@@ -9,5 +9,5 @@ abbrev pub invariant-loop-done : goal.invariant-loop-done
 invariant-loop-done l = record {
   value : l.mid ≡ fast_by l._done l.grid l.names l.month l.initial.mid;
   tally : l.sum ≡ fast_sums l._done l.grid l.names l.month l.initial.mid;
-  divided : IsDivided l.grid l.mid.whole l.room;
+  divided : IsDivided (before l.grid l.names l.month l.mid) l.room;
 }

@@ -1,13 +1,15 @@
-use Rattle.cpl_couple.proofs.Steps.{can_take, month_is, taken_is, fast_can, fast_range, moved_is, slow_can, runoff_is, arrival_is, last_is, last_skins}
+use Rattle.std.proofs.Common.{arith}
+use Rattle.cpl_couple.proofs.Steps.{can_take, month_is, fast_can, fast_range, moved_is, slow_can, runoff_is, arrival_is, last_is, last_skins}
 use Rattle.cpl_couple.proofs.surface.go_surface.Goals as goal
 
 pub take_flights-requires : goal.take_flights-requires
 take_flights-requires c = can_take c.args.grid.now c.args.mid.now c.requires.can.run.is_whole c.requires.skins
 
-pub divide-requires-clause-whole : goal.divide-requires-clause-whole
-divide-requires-clause-whole c =
+pub divide-requires-clause-can : goal.divide-requires-clause-can
+divide-requires-clause-can c =
     let month = month_is c.args.names.now c.args.mid.now.whole c.month_of-month.result c.requires.can.run.is_whole.stored.elapsed c.month_of-month.ensures in
-    taken_is c.args.grid.now c.args.names.now c.args.mid.now.whole c.requires.can c.month_of-month.result c.take_flights.new.mid month c.take_flights.ensures.value
+    let some = c.requires.can.run.are_names.fast.0 in
+    fast_can c.args.grid.now c.args.names.now c.args.mid.now.whole c.requires.can c.month_of-month.result c.take_flights.new.mid month c.take_flights.ensures.value 0 (omega (arith, some))
 
 pub go_fast-moved-requires-clause-can : goal.go_fast-moved-requires-clause-can
 go_fast-moved-requires-clause-can c =

@@ -1,12 +1,10 @@
 use Rattle.std.proofs.Common.{◌≡◌, ◌∙◌, sym, subst, arith, to_z, of_z, w64}
-use Rattle.std.specs.Prelude.{ℤ, ◌+ℤ◌}
+use Rattle.std.specs.Prelude.{ℤ}
 use Rattle.std.proofs.lemmas.Int.{ints}
 use Rattle.cpl_flux.specs.Elements.{IsElement, IsPart}
-use Rattle.cpl_restart.specs.FastStep.{albedo}
 use Rattle.cpl_fast.specs.declared.flows.WarmPart.{WarmPart}
 use Rattle.cpl_fast.specs.Flows.{area_in, flow_in, flow_through, part_in}
 use Rattle.cpl_fast.proofs.Parts.{area_read}
-use Rattle.cpl_fast.proofs.Places.{before_more}
 use Rattle.cpl_fast.proofs.flows.element_flow.Goals as goal
 
 pub flow_through-requires-clause-part : goal.flow_through-requires-clause-part
@@ -17,21 +15,16 @@ pub flow_through-requires-clause-element : goal.flow_through-requires-clause-ele
 flow_through-requires-clause-element c =
     let tables = c.args.tables.now in
     let sky = c.args.sky.now in
-    let b = area_read c.area-b.result (area_in tables c.args.row c.args.k) sky.air.area c.area-b.ensures c.requires.can.least (omega (arith, ints, c.requires.can.before, c.requires.can.within)) c.requires.can.seen.air.area.1 in
-    let here = subst (λ (x : ℤ). IsElement sky.air (part_in tables c.args.row c.args.k).part x) (sym b) (c.requires.can.part c.requires.wide).element in
+    let element = (c.requires.can.part c.requires.wide).element in
+    let b = area_read c.area-b.result (area_in tables c.args.row c.args.k) sky.air.area c.area-b.ensures element.least element.in_air c.requires.can.seen.air.area.1 in
+    let here = subst (λ (x : ℤ). IsElement sky.air (part_in tables c.args.row c.args.k).part x) (sym b) element in
     subst (λ (w : WarmPart). IsElement sky.air w.part (to_z w64 (of_z w64 c.area-b.result))) (sym c.part.ensures) here
 
-pub returns-clause-value : goal.returns-clause-value
+pub returns : goal.returns
 unfolding flow_in
-returns-clause-value c =
+returns c =
     let tables = c.args.tables.now in
-    let b = area_read c.area-b.result (area_in tables c.args.row c.args.k) c.args.sky.now.air.area c.area-b.ensures c.requires.can.least (omega (arith, ints, c.requires.can.before, c.requires.can.within)) c.requires.can.seen.air.area.1 in
-    let shade : to_z w64 (of_z w64 c.albedo-albedo.result) ≡ albedo c.args.rates.now c.args.list c.args.k =
-    let e = c.albedo-albedo.ensures.value in let l = c.albedo-albedo.ensures.range.0 in let m = c.albedo-albedo.ensures.range.1 in omega (arith, ints) in
-    c.flow_through.ensures.value ∙ (λ i. flow_through c.args.rates.now c.args.sky.now (c.part.ensures i) (shade i) (b i) (c.requires.from i))
-
-pub returns-clause-from : goal.returns-clause-from
-returns-clause-from c =
-    let tables = c.args.tables.now in
-    let b = area_read c.area-b.result (area_in tables c.args.row c.args.k) c.args.sky.now.air.area c.area-b.ensures c.requires.can.least (omega (arith, ints, c.requires.can.before, c.requires.can.within)) c.requires.can.seen.air.area.1 in
-    c.flow_through.ensures.from ∙ (λ i. c.requires.from i +ℤ b i) ∙ sym (before_more tables c.args.row c.args.k)
+    let element = (c.requires.can.part c.requires.wide).element in
+    let b = area_read c.area-b.result (area_in tables c.args.row c.args.k) c.args.sky.now.air.area c.area-b.ensures element.least element.in_air c.requires.can.seen.air.area.1 in
+    let sun : to_z w64 (of_z w64 c.args.sun) ≡ c.args.sun = omega (arith, ints) in
+    c.flow_through.ensures ∙ (λ i. flow_through c.args.rates.now c.args.sky.now (c.part.ensures i) (b i) (sun i))

@@ -1,15 +1,11 @@
 use Rattle.std.proofs.Common.{◌≡◌, ◌≢◌, ℕ, ◌<◌, ◌≤◌, length}
-use Rattle.cpl_fast.specs.Flows.{ArePortions, before_in, flow_at, flow_in}
+use Rattle.cpl_fast.specs.Flows.{flow_again, flow_at}
 use Rattle.cpl_fast.specs.Places.{place_in}
 use Rattle.cpl_fast.proofs.flows.row_flows.Given as goal
 
 abbrev pub invariant-loop-k : goal.invariant-loop-k
 invariant-loop-k l = record {
-  portions : ArePortions l.portions;
-  sun : l.portions.amount ≡ l.sky.sun;
-  whole : l.portions.whole ≡ l.sky.air.area;
-  from : l.portions.from ≡ before_in l.tables l.row l.k;
-  row : (j : ℕ) → j < l.k → flow_at l.flows (place_in (length l.tables.links.items) l.row j) ≡ flow_in l.rates l.list l.sky l.tables l.row j;
+  row : (j : ℕ) → j < l.k → flow_at l.flows (place_in (length l.tables.links.items) l.row j) ≡ flow_again l.rates l.sky l.tables l.initial.flows l.row j;
   ahead : (j : ℕ) → l.k ≤ j → flow_at l.flows (place_in (length l.tables.links.items) l.row j) ≡ flow_at l.initial.flows (place_in (length l.tables.links.items) l.row j);
   others : (r j : ℕ) → r < length l.tables.links.items → r ≢ l.row → flow_at l.flows (place_in (length l.tables.links.items) r j) ≡ flow_at l.initial.flows (place_in (length l.tables.links.items) r j);
 }

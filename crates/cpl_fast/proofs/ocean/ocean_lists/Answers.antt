@@ -1,32 +1,81 @@
-use Rattle.std.proofs.Common.{◌≡◌, ◌∙◌, sym, ap, ℕ, ◌+◌, ◌*◌, ◌^◌, arith, subst, to_z, of_z, w64, List}
+use Rattle.std.proofs.Common.{◌≡◌, ◌∙◌, refl, sym, ap, ℕ, ◌+◌, ◌*◌, ◌<◌, ◌^◌, arith, length, subst, to_z, of_z, w64, List}
 use Rattle.std.specs.Prelude.{ℤ, pos, ◌+ℤ◌}
 use Rattle.std.proofs.lemmas.Int.{ints}
-use Rattle.cpl_fixed.specs.Amounts.{at}
+use Rattle.cpl_fixed.specs.Amounts.{IsAmount, at}
 use Rattle.cpl_xgrid.specs.Lists.{XGridLists}
+use Rattle.cpl_xgrid.specs.Rows.{rows_of}
+use Rattle.cpl_xgrid.specs.declared.parts.Surface.TheVariants.{Ocean}
+use Rattle.cpl_xgrid.specs.declared.parts.XRef.{XRef}
 use Rattle.cpl_fast.specs.declared.flows.Flow.{Flow}
 use Rattle.cpl_fast.specs.declared.ocean.IceTaken.{IceTaken}
 use Rattle.cpl_fast.specs.declared.sums.After.{After}
+use Rattle.cpl_fast.specs.declared.sums.Sums.{Sums}
 use Rattle.cpl_fast.specs.declared.sums.Taken.{Taken}
-use Rattle.cpl_fast.specs.Surfaces.{category_gain, ice_of, ocean_at, skin_at, skin_of}
-use Rattle.cpl_fast.specs.Sums.{IsSmall, both_taken}
+use Rattle.cpl_fast.specs.Surfaces.{category_gain, ice_of, ocean_at, ocean_sums, refs_on, skin_at, skin_of}
+use Rattle.cpl_fast.specs.Sums.{IsSmall, IsSmallTaken, after, both_taken, sums_in, taken, with_rain}
 use Rattle.cpl_fast.proofs.Made.{one_more}
-use Rattle.cpl_fast.proofs.Places.{rows_more, written}
+use Rattle.cpl_fast.proofs.Places.{ahead_stay, rows_more, written}
 use Rattle.cpl_fast.proofs.Small.{passed, passed_small, taken_smaller, wider}
 use Rattle.cpl_fast.proofs.ocean.ocean_lists.Goals as goal
 
--- what a cell's ice takes, as water with heat
-of_ice : (h : ℤ) (ice other : IceTaken) → h ≡ passed ice.heat → ice ≡ other → IsSmall (2 ^ 23) ice.heat → h ≡ other.heat
-of_ice h ice other e is small = e ∙ passed_small ice.heat (wider (2 ^ 23) (2 ^ 60) ice.heat (omega arith) small) ∙ ap (λ (i : IceTaken). i.heat) is
+-- what a cell's ice takes, as water with heat, and the rain on it
+of_ice : (ice other : IceTaken) → ice ≡ other → IsSmall (2 ^ 23) ice.heat → passed ice.heat ≡ other.heat
+of_ice ice other is small = passed_small ice.heat (wider (2 ^ 23) (2 ^ 60) ice.heat (omega arith) small) ∙ ap (λ (i : IceTaken). i.heat) is
 
-pub add-requires-clause-small : goal.add-requires-clause-small
-add-requires-clause-small c = taken_smaller (c.loop-n.n * 2 ^ 45) (2 ^ 63) c.loop-n.all (omega arith) c.loop-n.invariant.small
+rain_of : (ice other : IceTaken) → ice ≡ other → IsSmall (2 ^ 23) ice.rain → passed ice.rain ≡ other.rain
+rain_of ice other is small = passed_small ice.rain (wider (2 ^ 23) (2 ^ 60) ice.rain (omega arith) small) ∙ ap (λ (i : IceTaken). i.rain) is
 
-pub add-requires-clause-other : goal.add-requires-clause-other
-add-requires-clause-other c = taken_smaller (2 ^ 44) (2 ^ 46) c.skin_cell-skin.result.taken (omega arith) c.skin_cell-skin.ensures.small
+ice_small : (ice : IceTaken) → IsSmall (2 ^ 23) ice.heat → IsSmallTaken (2 ^ 44) (record { heat = passed ice.heat; water = pos 0 })
+ice_small ice small =
+    let own = passed_small ice.heat (wider (2 ^ 23) (2 ^ 60) ice.heat (omega arith) small) in
+    record { heat = wider (2 ^ 23) (2 ^ 44) (passed ice.heat) (omega arith) (subst (IsSmall (2 ^ 23)) (sym own) small); water = (omega (arith, ints), omega (arith, ints)) }
 
-pub add-requires-in-loop-n-clause-small : goal.add-requires-in-loop-n-clause-small
-add-requires-in-loop-n-clause-small c =
-    taken_smaller (c.loop-n.n * 2 ^ 45 + 2 ^ 44) (2 ^ 63) c.add.new.self (omega arith) (c.add.ensures.small (c.loop-n.n * 2 ^ 45) (2 ^ 44) c.loop-n.invariant.small c.skin_cell-skin.ensures.small)
+-- the sums of open water, over the exchange cells of its cell
+open_is : (xgrid : XGridLists) (flows : List Flow) (n : ℕ) (refs : List XRef) (sums : Sums) → refs ≡ refs_on xgrid Ocean n → sums ≡ sums_in flows (length (rows_of xgrid Ocean)) 0 refs
+    → sums ≡ ocean_sums xgrid flows n 0
+unfolding ocean_sums
+open_is xgrid flows n refs sums e is = is ∙ ap (λ (r : List XRef). sums_in flows (length (rows_of xgrid Ocean)) 0 r) e
+
+-- the skin, by what was read
+skin_is : (xgrid : XGridLists) (flows : List Flow) (categories n : ℕ) (bare : Sums) (heat water rain h w : ℤ) → bare ≡ ocean_sums xgrid flows n 0 → rain ≡ (ice_of xgrid flows categories n).rain → heat ≡ h → water ≡ w
+    → after heat water (with_rain (taken bare) rain) bare.sun ≡ skin_at xgrid flows categories h w n
+unfolding skin_at
+skin_is xgrid flows categories n bare heat water rain h w is wet heat_is water_is = λ i. after (heat_is i) (water_is i) (with_rain (taken (is i)) (wet i)) (is i).sun
+
+pub open_sums-sums-requires-clause-still : goal.open_sums-sums-requires-clause-still
+open_sums-sums-requires-clause-still c e =
+    let n = c.loop-n.n in
+    let xgrid = c.args.xgrid.now in
+    let flows = c.args.flows.now in
+    let refs = c.cells_of_ocean-refs.result.now in
+    let first : n * (c.args.categories + 1) + 0 ≡ n * (c.args.categories + 1) = omega arith in
+    let empty : at c.args.area.now (n * (c.args.categories + 1)) ≡ pos 0 = omega (arith, ints, e) in
+    let still = c.requires.still n (omega arith) 0 (omega arith) (ap (at c.args.area.now) first ∙ empty) in
+    open_is xgrid flows n refs (sums_in flows (length (rows_of xgrid Ocean)) 0 refs) c.cells_of_ocean-refs.ensures refl ∙ still
+
+pub skin_cell-skin-requires-clause-heat : goal.skin_cell-skin-requires-clause-heat
+skin_cell-skin-requires-clause-heat c =
+    let n = c.loop-n.n in
+    let xgrid = c.args.xgrid.now in
+    let flows = c.args.flows.now in
+    let heat_read : to_z w64 (of_z w64 (at c.loop-n.heat n)) ≡ at c.loop-n.heat n = omega (arith, ints) in
+    let bare = open_is xgrid flows n c.cells_of_ocean-refs.result.now c.open_sums-sums.result c.cells_of_ocean-refs.ensures c.open_sums-sums.ensures.value in
+    let wet = rain_of c.category_lists-ice.result (ice_of xgrid flows c.args.categories n) c.category_lists-ice.ensures.value c.category_lists-ice.ensures.rain in
+    let water = at c.args.water.now n in
+    let is = skin_is xgrid flows c.args.categories n c.open_sums-sums.result _ water _ (at c.args.heat.now n) water bare wet (heat_read ∙ c.loop-n.invariant.heat_ahead n (omega arith)) refl in
+    subst IsAmount (sym (ap (λ (a : After). a.heat) is)) (c.requires.skins n (omega arith)).heat_range
+
+pub skin_cell-skin-requires-clause-water : goal.skin_cell-skin-requires-clause-water
+skin_cell-skin-requires-clause-water c =
+    let n = c.loop-n.n in
+    let xgrid = c.args.xgrid.now in
+    let flows = c.args.flows.now in
+    let water_read : to_z w64 (of_z w64 (at c.loop-n.water n)) ≡ at c.loop-n.water n = omega (arith, ints) in
+    let bare = open_is xgrid flows n c.cells_of_ocean-refs.result.now c.open_sums-sums.result c.cells_of_ocean-refs.ensures c.open_sums-sums.ensures.value in
+    let wet = rain_of c.category_lists-ice.result (ice_of xgrid flows c.args.categories n) c.category_lists-ice.ensures.value c.category_lists-ice.ensures.rain in
+    let heat = at c.args.heat.now n in
+    let is = skin_is xgrid flows c.args.categories n c.open_sums-sums.result heat _ _ heat (at c.args.water.now n) bare wet refl (water_read ∙ c.loop-n.invariant.water_ahead n (omega arith)) in
+    subst IsAmount (sym (ap (λ (a : After). a.water) is)) (c.requires.skins n (omega arith)).water_range
 
 -- what a cell takes, its skin first and then its ice
 takes_all : (xgrid : XGridLists) (flows : List Flow) (categories n : ℕ) (heat water : ℤ) (all : Taken) (skin : After) (with_skin with_ice : Taken) (h : ℤ)
@@ -42,6 +91,13 @@ takes_all xgrid flows categories n heat water all skin with_skin with_ice h is f
     λ i. record { heat = a i; water = b i }) in
     second ∙ (λ i. both_taken ((first ∙ ap (both_taken all) t) i) (record { heat = ice i; water = pos 0 })) ∙ split
 
+pub add-requires-in-loop-n-clause-small : goal.add-requires-in-loop-n-clause-small
+add-requires-in-loop-n-clause-small c =
+    taken_smaller (c.loop-n.n * 2 ^ 45 + 2 ^ 44) (2 ^ 63) c.add.new.self (omega arith) (c.add.ensures.small (c.loop-n.n * 2 ^ 45) (2 ^ 44) c.loop-n.invariant.small c.skin_cell-skin.ensures.small)
+
+pub add-requires-in-loop-n-clause-other : goal.add-requires-in-loop-n-clause-other
+add-requires-in-loop-n-clause-other c = taken_smaller (2 ^ 44) (2 ^ 46) _ (omega arith) (ice_small c.category_lists-ice.result c.category_lists-ice.ensures.taken)
+
 pub loop-n-preserved : goal.loop-n-preserved
 loop-n-preserved c =
     let n = c.loop-n.n in
@@ -51,21 +107,29 @@ loop-n-preserved c =
     let inv = c.loop-n.invariant in
     let skin = c.skin_cell-skin.result in
     let ice = c.category_lists-ice.result in
-    let f : ℕ → After = λ k. skin_at xgrid flows categories (at c.args.old_heat.now k) (at c.args.old_water.now k) k in
-    let heat_read : to_z w64 (of_z w64 (at c.args.old_heat.now n)) ≡ at c.args.old_heat.now n = omega (arith, ints) in
-    let water_read : to_z w64 (of_z w64 (at c.args.old_water.now n)) ≡ at c.args.old_water.now n = omega (arith, ints) in
-    let is = c.skin_cell-skin.ensures.value ∙ (λ i. skin_at xgrid flows categories (heat_read i) (water_read i) n) in
+    let f : ℕ → After = λ k. skin_at xgrid flows categories (at c.args.heat.now k) (at c.args.water.now k) k in
+    let heat_read : to_z w64 (of_z w64 (at c.loop-n.heat n)) ≡ at c.loop-n.heat n = omega (arith, ints) in
+    let water_read : to_z w64 (of_z w64 (at c.loop-n.water n)) ≡ at c.loop-n.water n = omega (arith, ints) in
+    let bare = open_is xgrid flows n c.cells_of_ocean-refs.result.now c.open_sums-sums.result c.cells_of_ocean-refs.ensures c.open_sums-sums.ensures.value in
+    let wet = rain_of ice (ice_of xgrid flows categories n) c.category_lists-ice.ensures.value c.category_lists-ice.ensures.rain in
+    let is = c.skin_cell-skin.ensures.value ∙ skin_is xgrid flows categories n c.open_sums-sums.result _ _ _ (at c.args.heat.now n) (at c.args.water.now n) bare wet (heat_read ∙ inv.heat_ahead n (omega arith)) (water_read ∙ inv.water_ahead n (omega arith)) in
     let heat_passed : to_z w64 (of_z w64 skin.heat) ≡ skin.heat = omega (arith, ints) in
     let water_passed : to_z w64 (of_z w64 skin.water) ≡ skin.water = omega (arith, ints) in
-    let ice_heat = of_ice (passed ice.heat) ice (ice_of xgrid flows categories n) (λ i. passed ice.heat) c.category_lists-ice.ensures.value c.category_lists-ice.ensures.taken in
-    let here = takes_all xgrid flows categories n (at c.args.old_heat.now n) (at c.args.old_water.now n) c.loop-n.all skin c.add.new.self c.add-in-loop-n.new.self (passed ice.heat) is c.add.ensures.value c.add-in-loop-n.ensures.value ice_heat in
-    let small = c.category_lists-ice.ensures.taken in
+    let ice_heat = of_ice ice (ice_of xgrid flows categories n) c.category_lists-ice.ensures.value c.category_lists-ice.ensures.taken in
+    let here = takes_all xgrid flows categories n (at c.args.heat.now n) (at c.args.water.now n) c.loop-n.all skin c.add.new.self c.add-in-loop-n.new.self (passed ice.heat) is c.add.ensures.value c.add-in-loop-n.ensures.value ice_heat in
+    let own : (k : ℕ) → k < categories → at c.category_lists-ice.new.heat (n * categories + k) ≡ at c.args.ice_heat.now (n * categories + k) +ℤ category_gain xgrid flows n k =
+    (λ k l. (
+    let old = inv.ice_ahead (n * categories + k) (omega arith) in
+    let new = c.category_lists-ice.ensures.heat k l in
+    omega (arith, ints, old, new))) in
     record {
-      ice_heat = rows_more (λ m k. at c.args.old_ice.now (m * categories + k) +ℤ category_gain xgrid flows m k) c.loop-n.ice_heat c.category_lists-ice.new.heat categories n (pos 0) inv.ice_heat c.category_lists-ice.ensures.heat c.category_lists-ice.ensures.others;
+      ice_heat = rows_more (λ m k. at c.args.ice_heat.now (m * categories + k) +ℤ category_gain xgrid flows m k) c.loop-n.ice_heat c.category_lists-ice.new.heat categories n (pos 0) inv.ice_heat own c.category_lists-ice.ensures.before;
       heat = written (λ k. (f k).heat) c.loop-n.heat n (pos 0) _ (omega arith) inv.heat (heat_passed ∙ ap (λ (a : After). a.heat) is);
       water = written (λ k. (f k).water) c.loop-n.water n (pos 0) _ (omega arith) inv.water (water_passed ∙ ap (λ (a : After). a.water) is);
+      ice_ahead = λ m l. c.category_lists-ice.ensures.ahead m (omega (arith, l)) ∙ inv.ice_ahead m (omega (arith, l));
+      heat_ahead = ahead_stay c.loop-n.heat c.args.heat.now n (pos 0) _ inv.heat_ahead;
+      water_ahead = ahead_stay c.loop-n.water c.args.water.now n (pos 0) _ inv.water_ahead;
       taken = one_more c.loop-n.all (ocean_at xgrid flows categories n) c.add-in-loop-n.new.self n (ocean_at xgrid flows categories) here inv.taken (λ i. ocean_at xgrid flows categories n);
       small = taken_smaller (n * 2 ^ 45 + 2 ^ 44 + 2 ^ 44) ((n + 1) * 2 ^ 45) c.add-in-loop-n.new.self (omega arith)
-          (c.add-in-loop-n.ensures.small (n * 2 ^ 45 + 2 ^ 44) (2 ^ 44) (c.add.ensures.small (n * 2 ^ 45) (2 ^ 44) inv.small c.skin_cell-skin.ensures.small)
-          (record { heat = wider (2 ^ 23) (2 ^ 44) (passed ice.heat) (omega arith) (subst (IsSmall (2 ^ 23)) (sym (passed_small ice.heat (wider (2 ^ 23) (2 ^ 60) ice.heat (omega arith) small))) small); water = (omega (arith, ints), omega (arith, ints)) }));
+          (c.add-in-loop-n.ensures.small (n * 2 ^ 45 + 2 ^ 44) (2 ^ 44) (c.add.ensures.small (n * 2 ^ 45) (2 ^ 44) inv.small c.skin_cell-skin.ensures.small) (ice_small ice c.category_lists-ice.ensures.taken));
     }

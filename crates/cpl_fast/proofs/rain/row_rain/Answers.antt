@@ -1,62 +1,57 @@
 use Rattle.std.proofs.Common.{◌≡◌, ◌≢◌, ◌∙◌, sym, ap, subst, ℕ, ◌+◌, ◌<◌, ◌≤◌, arith, to_z, of_z, w64, slice_set, length, List}
-use Rattle.std.specs.Prelude.{pos, ◌+ℤ◌}
+use Rattle.std.specs.Int.{w128}
+use Rattle.std.specs.Prelude.{ℤ, pos, ◌+ℤ◌}
 use Rattle.std.proofs.lemmas.Int.{ints}
+use Rattle.cpl_fixed.specs.Amounts.{IsAmount}
 use Rattle.cpl_fixed.specs.Shares.{share}
+use Rattle.cpl_diffusion.proofs.Sums.{sum_to}
+use Rattle.cpl_laws.proofs.Sums.{total_range}
 use Rattle.cpl_fast.specs.declared.flows.Flow.{Flow}
 use Rattle.cpl_fast.specs.declared.portions.Portions.{Portions}
 use Rattle.cpl_fast.specs.Flows.{ArePortions, area_in, before_in, flow_at, no_flow}
-use Rattle.cpl_fast.specs.Rain.{rained_on}
+use Rattle.cpl_fast.specs.Rain.{rain_in, rained_on}
+use Rattle.cpl_fast.specs.Sums.{IsSmall}
 use Rattle.cpl_fast.proofs.Nothing.{rained_clear}
-use Rattle.cpl_fast.proofs.Parts.{amount_passed, area_read, before_read}
+use Rattle.cpl_fast.proofs.Parts.{amount_passed, area_read, share_none}
 use Rattle.cpl_fast.specs.Places.{place_in}
 use Rattle.cpl_fast.proofs.Placed.{ahead_stays, entry_more_by, entry_set_by, others_stand, entry_within}
-use Rattle.cpl_fast.proofs.Places.{before_more, before_none, place_within}
-use Rattle.cpl_fast.specs.declared.flows.Link.{Link}
+use Rattle.cpl_fast.proofs.Small.{plus_small, sum_to_more, wider}
+use Rattle.cpl_fast.proofs.Places.{area_passed, before_more, cell_passed}
 use Rattle.cpl_fast.proofs.rain.row_rain.Goals as goal
 use Rattle.cpl_fast.proofs.rain.row_rain.Goals.{then-b-ne0, else-b-ne0}
 
-pub new-portions-requires-clause-from : goal.new-portions-requires-clause-from
-new-portions-requires-clause-from c =
-    let can = c.requires.can 0 c.requires.some in
-    let e = before_none c.args.tables.now c.args.row in
-    let least = can.least in
-    let within = can.within in
-    let before = can.before in
-    (before_read c.link.result.before (before_in c.args.tables.now c.args.row 0) c.args.area (ap (λ (l : Link). l.before) c.link.ensures ∙ sym e) before (omega (arith, ints)) can.range.1).0
+-- an amount is one number of 64 bits
+amount_small : (x : ℤ) → IsAmount x → IsSmall 1 (to_z w64 (of_z w64 x))
+amount_small x h = let a = h.0 in let b = h.1 in (omega (arith, ints), omega (arith, ints))
 
-pub new-portions-requires-clause-within : goal.new-portions-requires-clause-within
-new-portions-requires-clause-within c =
-    let can = c.requires.can 0 c.requires.some in
-    let e = before_none c.args.tables.now c.args.row in
-    let least = can.least in
-    let within = can.within in
-    let before = can.before in
-    (before_read c.link.result.before (before_in c.args.tables.now c.args.row 0) c.args.area (ap (λ (l : Link). l.before) c.link.ensures ∙ sym e) before (omega (arith, ints)) can.range.1).1
+-- a share more, in 128 bits
+rain_added : (k : ℕ) (sum wide share : ℤ) → IsSmall k sum → k ≤ 6 → IsAmount share → wide ≡ to_z w64 (of_z w64 share)
+    → to_z w128 (of_z w128 (sum +ℤ to_z w128 (of_z w128 wide))) ≡ sum +ℤ to_z w64 (of_z w64 share)
+rain_added k sum wide share small few h e = let p = small.0 in let q = small.1 in let a = h.0 in let b = h.1 in omega (arith, ints)
 
-pub new-portions-requires-clause-some : goal.new-portions-requires-clause-some
-new-portions-requires-clause-some c =
-    let can = c.requires.can 0 c.requires.some in
-    let least = can.range.0 in
-    let most = can.range.1 in
-    omega (arith, ints, least, most)
+-- and no share more
+plus_none : (sum x : ℤ) → x ≡ pos 0 → sum ≡ sum +ℤ x
+plus_none sum x e = omega (arith, ints)
 
-pub area-b-requires : goal.area-b-requires
-area-b-requires c =
-    let k : c.loop-k.k < c.args.tables.now.width = omega arith in
-    let within = place_within (length c.args.tables.now.links.items) c.args.tables.now.width c.args.row c.loop-k.k c.requires.row k in
-    omega (arith, within, c.requires.areas)
+pub portions-portions-requires-clause-cell : goal.portions-portions-requires-clause-cell
+portions-portions-requires-clause-cell c = cell_passed c.args.area c.args.tables.now c.args.row 0 (c.requires.can 0 c.requires.some)
+
+pub returns-clause-rain : goal.returns-clause-rain
+returns-clause-rain c =
+    let tables = c.args.tables.now in
+    let area = area_passed c.args.area c.args.tables.now c.args.row 0 (c.requires.can 0 c.requires.some) in
+    let rain = amount_passed c.args.rain c.requires.rain in
+    let n : c.loop-k.k ≡ tables.width = omega arith in
+    c.loop-k.invariant.sum ∙ (λ i. sum_to (rain_in (rain i) (area i) tables c.args.row) (n i)) ∙ sym (total_range (rain_in c.args.rain c.args.area tables c.args.row) tables.width)
 
 pub returns-clause-row : goal.returns-clause-row
 returns-clause-row c k l =
-    let can = c.requires.can 0 c.requires.some in
-    let least = can.range.0 in
-    let most = can.range.1 in
-    let area : to_z w64 (of_z w64 c.args.area) ≡ c.args.area = omega (arith, ints, least, most) in
+    let area = area_passed c.args.area c.args.tables.now c.args.row 0 (c.requires.can 0 c.requires.some) in
     let rain = amount_passed c.args.rain c.requires.rain in
     c.loop-k.invariant.row k (omega arith) ∙ (λ i. rained_on (rain i) (area i) c.args.tables.now c.args.flows.now c.args.row k)
 
-pub next-requires-clause-within : goal.next-requires-clause-within
-next-requires-clause-within c =
+pub next-share-requires-clause-within : goal.next-share-requires-clause-within
+next-share-requires-clause-within c =
     let can = c.requires.can c.loop-k.k (omega arith) in
     let low = can.least in let before = can.before in let within = can.within in let limit = can.range.1 in let some = can.range.0 in
     let b = area_read c.area-b.result (area_in c.args.tables.now c.args.row c.loop-k.k) c.args.area c.area-b.ensures low (omega (arith, ints)) limit in
@@ -81,17 +76,23 @@ loop-k-preserved c =
     let Row = λ (flows : List Flow). (j : ℕ) → j < k + 1 → flow_at flows (place_in rows row j) ≡ f j in
     let Ahead = λ (flows : List Flow). (j : ℕ) → k + 1 ≤ j → flow_at flows (place_in rows row j) ≡ flow_at c.args.flows.now (place_in rows row j) in
     let Others = λ (flows : List Flow). (r j : ℕ) → r < rows → r ≢ row → flow_at flows (place_in rows r j) ≡ flow_at c.args.flows.now (place_in rows r j) in
+    let rain = to_z w64 (of_z w64 c.args.rain) in
+    let area = to_z w64 (of_z w64 c.args.area) in
+    let one_more = sum_to_more (rain_in rain area tables row) k in
     elim c.if-b-ne0.branch [
       | then-b-ne0 w ↦
-          let range = w.next.ensures.range in
-          let set = w.flows-is ∙ (λ i. slice_set c.loop-k.flows (w.place.ensures.value i) (record (flow_at c.loop-k.flows (w.place.ensures.value i)) { rain = to_z w64 (of_z w64 w.next.result) })) in
-          let part = amount_passed w.next.result range ∙ w.next.ensures.value ∙ (λ i. share (inv.rain i) (inv.from i) (inv.from i +ℤ b i) (inv.whole i)) in
-          let moved : w.next.new.self.from ≡ before_in tables row (k + 1) = w.next.ensures.from ∙ (λ i. inv.from i +ℤ b i) ∙ sym (before_more tables row k) in
+          let range = w.next-share.ensures.range in
+          let set = w.flows-is ∙ (λ i. slice_set c.loop-k.flows (w.place.ensures.value i) (record (flow_at c.loop-k.flows (w.place.ensures.value i)) { rain = to_z w64 (of_z w64 w.next-share.result) })) in
+          let part = amount_passed w.next-share.result range ∙ w.next-share.ensures.value ∙ (λ i. share (inv.rain i) (inv.from i) (inv.from i +ℤ b i) (inv.whole i)) in
+          let added = w.sum-is ∙ rain_added k _ w.from-sum.result w.next-share.result inv.small (omega arith) range w.from-sum.ensures in
+          let moved : w.next-share.new.self.from ≡ before_in tables row (k + 1) = w.next-share.ensures.from ∙ (λ i. inv.from i +ℤ b i) ∙ sym (before_more tables row k) in
           record {
-            portions = subst ArePortions (sym w.portions-is) w.next.ensures.portions;
-            rain = ap (λ (p : Portions). p.amount) w.portions-is ∙ w.next.ensures.amount ∙ inv.rain;
-            whole = ap (λ (p : Portions). p.whole) w.portions-is ∙ w.next.ensures.whole ∙ inv.whole;
+            portions = subst ArePortions (sym w.portions-is) w.next-share.ensures.portions;
+            rain = ap (λ (p : Portions). p.amount) w.portions-is ∙ w.next-share.ensures.amount ∙ inv.rain;
+            whole = ap (λ (p : Portions). p.whole) w.portions-is ∙ w.next-share.ensures.whole ∙ inv.whole;
             from = ap (λ (p : Portions). p.from) w.portions-is ∙ moved;
+            sum = added ∙ (λ i. inv.sum i +ℤ part i) ∙ sym one_more;
+            small = subst (IsSmall (k + 1)) (sym added) (plus_small k 1 _ _ inv.small (amount_small w.next-share.result range));
             row = subst Row (sym set) (entry_set_by (λ j x. x ≡ f j) c.loop-k.flows rows row k no_flow _ c.requires.row (omega (arith, place)) inv.row
                 (λ i. record { heat = (old i).heat; water = (old i).water; sun = (old i).sun; rain = part i }));
             ahead = subst Ahead (sym set) (ahead_stays c.loop-k.flows c.args.flows.now rows row k no_flow _ c.requires.row inv.ahead);
@@ -102,12 +103,15 @@ loop-k-preserved c =
           let clear = c.requires.clear k (omega arith) empty in
           let more = before_more tables row k in
           let from = inv.from in
+          let none : rain_in rain area tables row k ≡ pos 0 = (λ i. share rain (before_in tables row k) (before_in tables row k +ℤ empty i) area) ∙ share_none rain (before_in tables row k) area in
           let stays : before_in tables row k ≡ before_in tables row (k + 1) = omega (arith, ints, empty, more) in
           record {
             portions = subst ArePortions (sym w.portions-is) inv.portions;
             rain = ap (λ (p : Portions). p.amount) w.portions-is ∙ inv.rain;
             whole = ap (λ (p : Portions). p.whole) w.portions-is ∙ inv.whole;
             from = ap (λ (p : Portions). p.from) w.portions-is ∙ inv.from ∙ stays;
+            sum = w.sum-is ∙ inv.sum ∙ plus_none _ (rain_in rain area tables row k) none ∙ sym one_more;
+            small = subst (IsSmall (k + 1)) (sym w.sum-is) (wider k (k + 1) _ (omega arith) inv.small);
             row = subst Row (sym w.flows-is) (entry_more_by (λ j x. x ≡ f j) c.loop-k.flows rows row k no_flow inv.row
                 (old ∙ clear ∙ sym (rained_clear (to_z w64 (of_z w64 c.args.rain)) (to_z w64 (of_z w64 c.args.area)) tables c.args.flows.now row k empty clear)));
             ahead = subst Ahead (sym w.flows-is) (λ j l. inv.ahead j (omega arith));

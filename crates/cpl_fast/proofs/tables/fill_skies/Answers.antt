@@ -1,10 +1,8 @@
-use Rattle.std.proofs.Common.{◌≡◌, ◌≢◌, ◌∙◌, rules, sym, subst, ◌<◌, arith, below_more, ℕ, List, length, w64, to_z, of_z}
-use Rattle.std.specs.Int.RustNames.{FitsSigned}
-use Rattle.std.specs.Prelude.{ℤ, pos, slice_index_or, slice_set}
+use Rattle.std.proofs.Common.{◌≡◌, ◌≢◌, ◌∙◌, sym, subst, ◌<◌, arith, below_more, ℕ, List, length, w64, to_z, of_z}
+use Rattle.std.specs.Prelude.{ℤ, slice_set}
 use Rattle.std.proofs.lemmas.Int.{ints}
 use Rattle.std.proofs.lemmas.List.{get_or-set_same, get_or-set_other, length-set}
-use Rattle.cpl_fixed.specs.Amounts.{IsAmount, at}
-use Rattle.cpl_fixed.specs.Shares.{part_of}
+use Rattle.cpl_fixed.specs.Amounts.{at}
 use Rattle.cpl_flux.specs.declared.parts.AirSide.{AirSide}
 use Rattle.cpl_flux.specs.Elements.{IsAirSide}
 use Rattle.cpl_fast.specs.Flows.{sky_at, no_sky}
@@ -26,40 +24,19 @@ sky-requires-clause-air c =
     let is = c.requires.cells n (omega arith) in
     subst IsAirSide (side_read c.args.heat.now c.args.vapour.now c.args.area.now n is) is
 
-pub sky-requires-clause-least : goal.sky-requires-clause-least
-sky-requires-clause-least c =
-    let n = c.loop-n.n in
-    let fits : FitsSigned w64 (slice_index_or c.args.sun.now c.loop-n.n (pos 0)) = search rules in
-    let least = c.requires.least n (omega arith) in
-    omega (arith, ints, least, fits)
-
-pub sky-requires-clause-most : goal.sky-requires-clause-most
-sky-requires-clause-most c =
-    let n = c.loop-n.n in
-    let fits : FitsSigned w64 (slice_index_or c.args.sun.now c.loop-n.n (pos 0)) = search rules in
-    let sun : at c.args.sun.now n ≡ to_z w64 (of_z w64 (at c.args.sun.now n)) = omega (arith, ints, fits) in
-    let strength : c.args.strength ≡ to_z w64 (of_z w64 c.args.strength) = omega (arith, ints) in
-    let same : part_of (at c.args.sun.now n) c.args.strength (pos 1_000) ≡ part_of (to_z w64 (of_z w64 (at c.args.sun.now n))) (to_z w64 (of_z w64 c.args.strength)) (pos 1_000) = λ i. part_of (sun i) (strength i) (pos 1_000) in
-    subst IsAmount same (c.requires.most n (omega arith))
-
 pub loop-n-preserved : goal.loop-n-preserved
 loop-n-preserved c =
     let n = c.loop-n.n in
     let l : n < length c.args.skies.now = omega arith in
     let count = c.loop-n.invariant.0 in
-    let fits : FitsSigned w64 (slice_index_or c.args.sun.now c.loop-n.n (pos 0)) = search rules in
-    let sun : to_z w64 (of_z w64 (at c.args.sun.now n)) ≡ at c.args.sun.now n = omega (arith, ints, fits) in
     let side = side_read c.args.heat.now c.args.vapour.now c.args.area.now n (c.requires.cells n l) in
-    let strength = to_z w64 (of_z w64 c.args.strength) in
-    let own : c.sky.result ≡ sky_by c.args.rates.now strength c.args.heat.now c.args.vapour.now c.args.area.now c.args.sun.now n =
-    c.sky.ensures ∙ (λ i. sky_under c.args.rates.now strength (sun i) (sym side i)) in (
+    let own : c.sky.result ≡ sky_by c.args.rates.now c.args.heat.now c.args.vapour.now c.args.area.now n =
+    c.sky.ensures ∙ (λ i. sky_under c.args.rates.now (sym side i)) in (
       length-set c.loop-n.skies n c.sky.result ∙ count,
-      below_more (λ k. sky_at (slice_set c.loop-n.skies n c.sky.result) k ≡ sky_by c.args.rates.now strength c.args.heat.now c.args.vapour.now c.args.area.now c.args.sun.now k) n
+      below_more (λ k. sky_at (slice_set c.loop-n.skies n c.sky.result) k ≡ sky_by c.args.rates.now c.args.heat.now c.args.vapour.now c.args.area.now k) n
           (λ k h. let ne : k ≢ n = omega arith in get_or-set_other c.loop-n.skies n k c.sky.result no_sky ne ∙ c.loop-n.invariant.1 k h)
           (get_or-set_same c.loop-n.skies n c.sky.result no_sky (omega arith) ∙ own),
     )
 
 pub returns-clause-value : goal.returns-clause-value
-returns-clause-value c =
-    let strength : to_z w64 (of_z w64 c.args.strength) ≡ c.args.strength = omega (arith, ints) in
-    λ n l. c.loop-n.invariant.1 n (omega arith) ∙ (λ i. sky_by c.args.rates.now (strength i) c.args.heat.now c.args.vapour.now c.args.area.now c.args.sun.now n)
+returns-clause-value c = λ n l. c.loop-n.invariant.1 n (omega arith)

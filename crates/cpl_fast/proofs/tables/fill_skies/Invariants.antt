@@ -6,4 +6,4 @@ use Rattle.cpl_fast.proofs.tables.fill_skies.Given as goal
 abbrev pub invariant-loop-n : goal.invariant-loop-n
 invariant-loop-n l =
     (length l.skies ≡ length l.fn.skies)
-    × ((k : ℕ) → k < l.n → sky_at l.skies k ≡ sky_by l.rates l.strength l.heat l.vapour l.area l.sun k)
+    × ((k : ℕ) → k < l.n → sky_at l.skies k ≡ sky_by l.rates l.heat l.vapour l.area k)

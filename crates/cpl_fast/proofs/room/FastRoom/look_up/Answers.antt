@@ -1,42 +1,19 @@
-use Rattle.std.proofs.Common.{◌∙◌, ap, subst, sym, ◌-◌, arith, length}
+use Rattle.std.proofs.Common.{◌∙◌, ap, subst, sym, arith, length}
 use Rattle.std.proofs.lemmas.List.{with_items_is}
 use Rattle.cpl_laws.specs.Once.{IsNumbered}
 use Rattle.cpl_restart.specs.FastStep.{Before}
 use Rattle.cpl_fast.specs.Filled.{AreSkies}
 use Rattle.cpl_fast.specs.Rooms.{before_step}
-use Rattle.cpl_fast.proofs.Looking.{side_in_range, skies_seen, strength_natural, strength_read, sun_in_range, sun_natural}
+use Rattle.cpl_fast.proofs.Looking.{side_in_range, skies_seen}
 use Rattle.cpl_fast.proofs.room.FastRoom.look_up.Goals as goal
-
-pub fill_skies-requires-clause-strength : goal.fill_skies-requires-clause-strength
-fill_skies-requires-clause-strength c =
-    let s : Before = before_step c.args.grid.now c.args.rates.now c.args.month c.args.mid.now in
-    let is : IsNumbered c.args.grid.now = record { rules = c.requires.can.grid; air = c.cells-airs.ensures.numbers; land = c.cells-lands.ensures.numbers; ocean = c.cells-oceans.ensures.numbers } in
-    strength_natural s is c.cells-airs.ensures.mates c.requires.can c.as_slice.result.now c.as_slice-2.result.now c.as_slice-3.result.now c.as_slice-4.result.now _
-    c.as_slice.ensures c.as_slice-2.ensures c.as_slice-3.ensures c.as_slice-4.ensures (strength_read c.args.rates.now c.requires.can.rates (c.args.month - 1))
 
 pub fill_skies-requires-clause-cells : goal.fill_skies-requires-clause-cells
 fill_skies-requires-clause-cells c =
     let s : Before = before_step c.args.grid.now c.args.rates.now c.args.month c.args.mid.now in
     let is : IsNumbered c.args.grid.now = record { rules = c.requires.can.grid; air = c.cells-airs.ensures.numbers; land = c.cells-lands.ensures.numbers; ocean = c.cells-oceans.ensures.numbers } in
     let lent = ap length c.deref_mut.ensures.value ∙ c.requires.room.room.skies in
-    λ n l. side_in_range s is c.cells-airs.ensures.mates c.requires.can c.as_slice.result.now c.as_slice-2.result.now c.as_slice-3.result.now c.as_slice-4.result.now _
-    c.as_slice.ensures c.as_slice-2.ensures c.as_slice-3.ensures c.as_slice-4.ensures (strength_read c.args.rates.now c.requires.can.rates (c.args.month - 1)) n (omega (arith, l, lent))
-
-pub fill_skies-requires-clause-least : goal.fill_skies-requires-clause-least
-fill_skies-requires-clause-least c =
-    let s : Before = before_step c.args.grid.now c.args.rates.now c.args.month c.args.mid.now in
-    let is : IsNumbered c.args.grid.now = record { rules = c.requires.can.grid; air = c.cells-airs.ensures.numbers; land = c.cells-lands.ensures.numbers; ocean = c.cells-oceans.ensures.numbers } in
-    let lent = ap length c.deref_mut.ensures.value ∙ c.requires.room.room.skies in
-    λ n l. sun_natural s is c.cells-airs.ensures.mates c.requires.can c.as_slice.result.now c.as_slice-2.result.now c.as_slice-3.result.now c.as_slice-4.result.now _
-    c.as_slice.ensures c.as_slice-2.ensures c.as_slice-3.ensures c.as_slice-4.ensures (strength_read c.args.rates.now c.requires.can.rates (c.args.month - 1)) n (omega (arith, l, lent))
-
-pub fill_skies-requires-clause-most : goal.fill_skies-requires-clause-most
-fill_skies-requires-clause-most c =
-    let s : Before = before_step c.args.grid.now c.args.rates.now c.args.month c.args.mid.now in
-    let is : IsNumbered c.args.grid.now = record { rules = c.requires.can.grid; air = c.cells-airs.ensures.numbers; land = c.cells-lands.ensures.numbers; ocean = c.cells-oceans.ensures.numbers } in
-    let lent = ap length c.deref_mut.ensures.value ∙ c.requires.room.room.skies in
-    λ n l. sun_in_range s is c.cells-airs.ensures.mates c.requires.can c.as_slice.result.now c.as_slice-2.result.now c.as_slice-3.result.now c.as_slice-4.result.now _
-    c.as_slice.ensures c.as_slice-2.ensures c.as_slice-3.ensures c.as_slice-4.ensures (strength_read c.args.rates.now c.requires.can.rates (c.args.month - 1)) n (omega (arith, l, lent))
+    λ n l. side_in_range s is c.cells-airs.ensures.mates c.requires.can c.as_slice.result.now c.as_slice-2.result.now c.as_slice-3.result.now
+    c.as_slice.ensures c.as_slice-2.ensures c.as_slice-3.ensures n (omega (arith, l, lent))
 
 pub returns-clause-skies : goal.returns-clause-skies
 returns-clause-skies c =
@@ -45,6 +22,6 @@ returns-clause-skies c =
     let lent = ap length c.deref_mut.ensures.value ∙ c.requires.room.room.skies in
     let gone = with_items_is c.args.self.now.skies c.fill_skies.new.skies (omega (arith, c.deref_mut.ensures.len, c.fill_skies.ensures.count)) in
     subst (AreSkies s) (sym gone)
-    (skies_seen s is c.cells-airs.ensures.mates c.requires.can c.as_slice.result.now c.as_slice-2.result.now c.as_slice-3.result.now c.as_slice-4.result.now _
-    c.as_slice.ensures c.as_slice-2.ensures c.as_slice-3.ensures c.as_slice-4.ensures (strength_read c.args.rates.now c.requires.can.rates (c.args.month - 1))
+    (skies_seen s is c.cells-airs.ensures.mates c.requires.can c.as_slice.result.now c.as_slice-2.result.now c.as_slice-3.result.now
+    c.as_slice.ensures c.as_slice-2.ensures c.as_slice-3.ensures
     c.fill_skies.new.skies (c.fill_skies.ensures.count ∙ lent) (λ n l. c.fill_skies.ensures.value n (omega (arith, l, lent))))
