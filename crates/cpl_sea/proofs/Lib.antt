@@ -5,8 +5,12 @@ pub mod Pairs
 pub mod Kept
 pub mod Steps
 pub mod Writes
+pub mod Slices
+pub mod Moved
 pub mod Outs
 pub mod Looked
+pub mod Mixed
+pub mod Left
 pub mod Ready
 pub mod Tops
 pub mod Entered

@@ -1,8 +1,6 @@
 -- What the passes of a step find is what the definition of the step says.
-use Rattle.std.proofs.Common.{◌≡◌, ◌∙◌, refl, sym, ap, subst, ℕ, zero, suc, ◌+◌, ◌*◌, ◌/◌, ◌%◌, ◌<◌, ◌≤◌, arith, inl, inr, Bool, true, false, ◌&&◌, List, length}
-use Rattle.std.specs.Prelude.{ℤ, pos, ◌+ℤ◌, ◌-ℤ◌, All, if◌then◌else◌}
-use Rattle.std.proofs.lemmas.Bool.{cases_lt}
-use Rattle.std.proofs.lemmas.Bool.Decides.{nat_tests}
+use Rattle.std.proofs.Common.{◌≡◌, ◌∙◌, refl, sym, ap, subst, ℕ, ◌+◌, ◌*◌, ◌/◌, ◌%◌, ◌<◌, ◌≤◌, arith, Bool, true, false, ◌&&◌, List, length}
+use Rattle.std.specs.Prelude.{ℤ, pos, All, if◌then◌else◌}
 use Rattle.std.proofs.lemmas.Nat.{div-add-mod'}
 use Rattle.std.proofs.lemmas.List.Elements.{All-from_get_or}
 use Rattle.std.proofs.lemmas.List.FromFn.{fill_by_all}
@@ -12,21 +10,23 @@ use Rattle.cpl_mosaic.specs.declared.mosaic.Mesh.{Mesh}
 use Rattle.cpl_mosaic.specs.declared.parts.Side.TheVariants.{W, E, S, N}
 use Rattle.cpl_ice.specs.declared.parts.Salty.{Salty}
 use Rattle.cpl_transport.specs.Heights.{next_face}
-use Rattle.cpl_transport.specs.Mixing.{exchanged, mixed, passed}
+use Rattle.cpl_transport.specs.Mixing.{mixed}
 use Rattle.cpl_transport.specs.Moves.{through}
 use Rattle.cpl_transport.specs.Salts.{IsSalty, joined, nothing, without}
 use Rattle.cpl_restart.specs.Diffusion.{AreAmounts, cell_count}
 use Rattle.cpl_diffusion.proofs.Conserved.{amount_at}
-use Rattle.cpl_restart.specs.Transport.{Sea, cell_in, face_at, face_count, height_at, is_open, is_wet, layered, moved_out, next_number, transported}
+use Rattle.cpl_restart.specs.Transport.{Sea, cell_in, face_at, face_count, height_at, is_open, is_wet, layered, moved_out, next_number, stepped, transported}
 use Rattle.cpl_sea.specs.declared.links.Link.{Link}
 use Rattle.cpl_sea.specs.declared.links.CellFaces.{CellFaces}
 use Rattle.cpl_sea.specs.Links.{all_cell_faces, cell_faces, face_flow, link_flow, link_of, links_of}
 use Rattle.cpl_transport.specs.Cells.{mixed_cell}
-use Rattle.cpl_sea.specs.Passes.{cell_faces_at, column_at, flow_in, height_over, layer_flows, link_at, number_after, out_of, salty_at}
+use Rattle.cpl_sea.specs.Blocks.{AreMixed, left_in}
+use Rattle.cpl_sea.specs.Passes.{cell_faces_at, flow_in, height_over, layer_flows, link_at, number_after, out_of, salty_at, top_at}
 use Rattle.cpl_sea.specs.Seas.{IsOcean, IsSea}
 use Rattle.cpl_sea.proofs.Flows.{flow_seen}
 use Rattle.cpl_sea.proofs.Kept.{of_layer, rest_amount}
 use Rattle.cpl_sea.proofs.Looked.{cell_faces_is, length_links, link_is, link_within, sides_within}
+use Rattle.cpl_sea.proofs.Mixed.{cells_same}
 use Rattle.cpl_sea.proofs.Outs.{out_same}
 use Rattle.cpl_sea.proofs.Rows.{place_below}
 use Rattle.cpl_sea.proofs.Steps.{is_heat, is_salt, is_water}
@@ -46,30 +46,6 @@ open_number false slope u x y x' y' h = refl
 
 open_flow : (b : Bool) (u : ℤ) (p q r s p' q' r' s' : Salty) → p ≡ p' → q ≡ q' → r ≡ r' → s ≡ s' → (if b then through u p q r s else nothing) ≡ (if b then through u p' q' r' s' else nothing)
 open_flow b u p q r s p' q' r' s' d e f g = λ i. if b then through u (d i) (e i) (f i) (g i) else nothing
-
--- columns that agree in their layers are mixed alike
-passed_same : (mix layers : ℕ) (f g : ℕ → ℤ) → ((l : ℕ) → l < layers → f l ≡ g l) → (n : ℕ) → n < layers → passed mix layers f n ≡ passed mix layers g n
-passed_same mix layers f g same n l = elim (cases_lt (n + 1) layers) [
-  | inl more ↦
-      let a : passed mix layers f n ≡ exchanged mix (f n) (f (n + 1)) = grind (arith, nat_tests) in
-      let b : passed mix layers g n ≡ exchanged mix (g n) (g (n + 1)) = grind (arith, nat_tests) in
-      a ∙ (λ i. exchanged mix (same n l i) (same (n + 1) more i)) ∙ sym b
-  | inr last ↦
-      let a : passed mix layers f n ≡ pos 0 = grind (arith, nat_tests) in
-      let b : passed mix layers g n ≡ pos 0 = grind (arith, nat_tests) in
-      a ∙ sym b
-]
-
-mixed_same : (mix layers : ℕ) (f g : ℕ → ℤ) → ((l : ℕ) → l < layers → f l ≡ g l) → (n : ℕ) → n < layers → mixed mix layers f n ≡ mixed mix layers g n
-mixed_same mix layers f g same zero l =
-    let here = same zero l in
-    let down = passed_same mix layers f g same zero l in
-    λ i. here i -ℤ down i
-mixed_same mix layers f g same (suc n) l =
-    let here = same (suc n) l in
-    let above = passed_same mix layers f g same n (omega arith) in
-    let down = passed_same mix layers f g same (suc n) l in
-    λ i. here i +ℤ above i -ℤ down i
 
 -- a list whose numbers are those of layers
 pub filled : (layers count : ℕ) (number : ℕ → ℕ → ℤ) (xs : List ℤ) → length xs ≡ layers * count → ((layer n : ℕ) → layer < layers → n < count → at xs (layer * count + n) ≡ number layer n) → xs ≡ layered layers count number
@@ -147,106 +123,108 @@ module _ (mesh : Mesh) (layers : ℕ) (rates : Rates) (sea : Sea) (ocean : IsOce
           ∙ out_is layer n k in
           λ i. without (loaded layer n l k i) (out i)
 
-  -- with what the transport leaves in the cells
-  module _ (rest : List Salty) (long : length rest ≡ layers * count) (left : (layer n : ℕ) → layer < layers → n < count → salty_at rest (layer * count + n) ≡ transported mesh layers rates sea layer n) where
-    transported_salty : (layer n : ℕ) → layer < layers → n < count → IsSalty (transported mesh layers rates sea layer n)
-    transported_salty layer n l k = record {
-      water = rest_amount mesh layers rates sea ocean is_sea (λ (it : Salty). it.water) is_water (λ here there out h. h.water) sea.water is_sea.water (λ layer n. refl) le layer n l k;
-      heat = rest_amount mesh layers rates sea ocean is_sea (λ (it : Salty). it.heat) is_heat (λ here there out h. h.heat) sea.heat is_sea.heat (λ layer n. refl) le layer n l k;
-      salt = rest_amount mesh layers rates sea ocean is_sea (λ (it : Salty). it.salt) is_salt (λ here there out h. h.salt) sea.salt is_sea.salt (λ layer n. refl) le layer n l k;
-    }
+  transported_salty : (layer n : ℕ) → layer < layers → n < count → IsSalty (transported mesh layers rates sea layer n)
+  transported_salty layer n l k = record {
+    water = rest_amount mesh layers rates sea ocean is_sea (λ (it : Salty). it.water) is_water (λ here there out h. h.water) sea.water is_sea.water (λ layer n. refl) le layer n l k;
+    heat = rest_amount mesh layers rates sea ocean is_sea (λ (it : Salty). it.heat) is_heat (λ here there out h. h.heat) sea.heat is_sea.heat (λ layer n. refl) le layer n l k;
+    salt = rest_amount mesh layers rates sea ocean is_sea (λ (it : Salty). it.salt) is_salt (λ here there out h. h.salt) sea.salt is_sea.salt (λ layer n. refl) le layer n l k;
+  }
 
-    pub rest_salty : All IsSalty rest
-    rest_salty =
-        All-from_get_or IsSalty rest nothing
-        (λ place l.
-        let within : place < layers * count = omega arith in
-        let of = of_layer layers count place within in
-        let e : place ≡ place / count * count + place % count = let whole = div-add-mod' place count in omega (arith, whole) in
-        let is = ap (salty_at rest) e ∙ left (place / count) (place % count) of.0 of.1 in
-        subst IsSalty (sym is) (transported_salty (place / count) (place % count) of.0 of.1))
+-- WHAT A STEP BEGINS WITH, AND WHAT IT LEAVES
 
-    -- and what the vertical exchange makes of it
-    pub mixed_is : (layer n : ℕ) → layer < layers → n < count
-        → ◌≡◌ {A = Salty} (mixed_cell rates.mix layers (column_at count rest n) layer) (mixed_cell rates.mix layers (λ l. transported mesh layers rates sea l n) layer)
-    mixed_is layer n l k =
-        let water = mixed_same rates.mix layers (λ l. (column_at count rest n l).water) (λ l. (transported mesh layers rates sea l n).water) (λ j h. ap (λ (s : Salty). s.water) (left j n h k)) layer l in
-        let heat = mixed_same rates.mix layers (λ l. (column_at count rest n l).heat) (λ l. (transported mesh layers rates sea l n).heat) (λ j h. ap (λ (s : Salty). s.heat) (left j n h k)) layer l in
-        let salt = mixed_same rates.mix layers (λ l. (column_at count rest n l).salt) (λ l. (transported mesh layers rates sea l n).salt) (λ j h. ap (λ (s : Salty). s.salt) (left j n h k)) layer l in
-        λ i. record { water = water i; heat = heat i; salt = salt i }
-
--- WHAT THE CALLS OF A STEP RETURN, AND WHAT IT LEAVES
-
--- what each call was lent and what it returned, as it stands in the room
-pub record Passed (mesh : Mesh) (layers : ℕ) (rates : Rates) (sea : Sea) : Type 0 where
+-- what the passes over the layers are lent, as it stands in the room
+pub record Begun (mesh : Mesh) (layers : ℕ) (sea : Sea) : Type 0 where
   pub links : List Link
   pub faces_of : List CellFaces
   pub heights : List ℤ
   pub cells : List Salty
   pub faces : List ℤ
-  pub rest : List Salty
   pub links_are : links ≡ links_of mesh
   pub faces_of_are : faces_of ≡ all_cell_faces mesh
   pub heights_count : length heights ≡ cell_count mesh
-  pub rest_count : length rest ≡ layers * cell_count mesh
+  pub faces_are : faces ≡ sea.faces
   pub raised : (n : ℕ) → n < cell_count mesh → at heights n ≡ height_over (at mesh.area n) layers (cell_count mesh) sea.water n
   pub loaded : (layer n : ℕ) → layer < layers → n < cell_count mesh → salty_at cells (layer * cell_count mesh + n) ≡ cell_in mesh sea layer n
-  pub numbers : (layer f : ℕ) → layer < layers → f < length links
-      → at faces (layer * length links + f) ≡ number_after rates.slope heights (link_at links f) (at sea.faces (layer * length links + f))
-  pub left : (layer n : ℕ) → layer < layers → n < length heights
-      → salty_at rest (layer * length heights + n) ≡ without (salty_at cells (layer * length heights + n)) (out_of (layer_flows rates.slope heights links cells sea.faces layer) (cell_faces_at faces_of n))
 
-module _ (mesh : Mesh) (layers : ℕ) (rates : Rates) (sea : Sea) (ocean : IsOcean mesh) (is_sea : IsSea mesh layers sea) (le : 2 ≤ rates.mix) (it : Passed mesh layers rates sea) where
+module _ (mesh : Mesh) (layers : ℕ) (rates : Rates) (sea : Sea) (ocean : IsOcean mesh) (is_sea : IsSea mesh layers sea) (le : 2 ≤ rates.mix) (it : Begun mesh layers sea) where
   columns : length it.links ≡ face_count mesh
   columns = ap length it.links_are ∙ length_links mesh
 
-  pub numbers_are : (layer f : ℕ) → layer < layers → f < face_count mesh → at it.faces (layer * face_count mesh + f) ≡ next_number mesh layers rates sea layer f
-  numbers_are layer f l k =
-      let P = λ (m : ℕ). at it.faces (layer * m + f) ≡ number_after rates.slope it.heights (link_at it.links f) (at sea.faces (layer * m + f)) in
+  abbrev pub left : ℕ → ℕ → Salty
+  left = left_in rates.slope it.heights it.links it.faces_of it.cells it.faces
+
+  -- each face's number after the step
+  pub numbers_are : (after : List ℤ) → ((layer f : ℕ) → layer < layers → f < length it.links → at after (layer * length it.links + f) ≡ number_after rates.slope it.heights (link_at it.links f) (at it.faces (layer * length it.links + f)))
+      → (layer f : ℕ) → layer < layers → f < face_count mesh → at after (layer * face_count mesh + f) ≡ next_number mesh layers rates sea layer f
+  numbers_are after numbers layer f l k =
+      let P = λ (m : ℕ). at after (layer * m + f) ≡ number_after rates.slope it.heights (link_at it.links f) (at it.faces (layer * m + f)) in
       let link : link_at it.links f ≡ link_of mesh (face_at mesh f) = ap (λ (t : List Link). link_at t f) it.links_are ∙ link_is mesh f k in
-      subst P columns (it.numbers layer f l (omega (arith, columns)))
-      ∙ ap (λ (t : Link). number_after rates.slope it.heights t (at sea.faces (layer * face_count mesh + f))) link
+      subst P columns (numbers layer f l (omega (arith, columns)))
+      ∙ (λ i. number_after rates.slope it.heights (link i) (at (it.faces_are i) (layer * face_count mesh + f)))
       ∙ number_is mesh layers rates sea ocean is_sea le it.heights it.raised layer f k
 
-  pub rest_are : (layer n : ℕ) → layer < layers → n < cell_count mesh → salty_at it.rest (layer * cell_count mesh + n) ≡ transported mesh layers rates sea layer n
-  rest_are layer n l k =
-      let flows = layer_flows rates.slope it.heights it.links it.cells sea.faces in
-      let P = λ (m : ℕ). salty_at it.rest (layer * m + n) ≡ without (salty_at it.cells (layer * m + n)) (out_of (flows layer) (cell_faces_at it.faces_of n)) in
-      subst P it.heights_count (it.left layer n l (omega (arith, it.heights_count)))
+  -- what the transport leaves in each cell
+  pub left_are : (layer n : ℕ) → layer < layers → n < cell_count mesh → left layer n ≡ transported mesh layers rates sea layer n
+  left_are layer n l k =
+      let flows = layer_flows rates.slope it.heights it.links it.cells it.faces in
+      let same : (layer f : ℕ) → flows layer f ≡ flow_in it.cells (layer * length it.heights) (link_at it.links f) (number_after rates.slope it.heights (link_at it.links f) (at sea.faces (layer * length it.links + f))) =
+      λ layer f. ap (λ (t : List ℤ). flow_in it.cells (layer * length it.heights) (link_at it.links f) (number_after rates.slope it.heights (link_at it.links f) (at t (layer * length it.links + f)))) it.faces_are in
+      ap (λ (m : ℕ). without (salty_at it.cells (layer * m + n)) (out_of (flows layer) (cell_faces_at it.faces_of n))) it.heights_count
       ∙ rest_is mesh layers rates sea ocean is_sea le it.heights it.raised it.cells it.loaded it.links it.faces_of (length it.heights) (length it.links)
-      it.links_are it.faces_of_are it.heights_count columns flows (λ layer f. refl) layer n l k
+      it.links_are it.faces_of_are it.heights_count columns flows same layer n l k
 
--- from what the calls were lent
-abbrev pub passed_on : (mesh : Mesh) (layers : ℕ) (rates : Rates) (sea : Sea) (water heat salt column_water : List ℤ) (links : List Link) (faces_of : List CellFaces) (heights raised : List ℤ) (cells read_cells : List Salty) (before faces : List ℤ) (rest : List Salty)
+  pub left_salty : (layer n : ℕ) → layer < layers → n < length it.heights → IsSalty (left layer n)
+  left_salty layer n l k =
+      let within : n < cell_count mesh = omega (arith, k, it.heights_count) in
+      subst IsSalty (sym (left_are layer n l within)) (transported_salty mesh layers rates sea ocean is_sea le layer n l within)
+
+  -- and what the vertical exchange makes of it
+  pub cells_are : (water heat salt : List ℤ) → AreMixed rates.mix layers (length it.heights) left (length it.heights) water heat salt
+      → (layer n : ℕ) → layer < layers → n < cell_count mesh
+      → ◌≡◌ {A = Salty} (top_at water heat salt (layer * cell_count mesh + n)) (mixed_cell rates.mix layers (λ l. transported mesh layers rates sea l n) layer)
+  cells_are water heat salt are layer n l k =
+      ap (λ (m : ℕ). top_at water heat salt (layer * m + n)) (sym it.heights_count)
+      ∙ are layer n l (omega (arith, k, it.heights_count))
+      ∙ cells_same rates.mix layers (λ j. left j n) (λ j. transported mesh layers rates sea j n) (λ j h. left_are j n h k) layer l
+
+  -- and the ocean after the step
+  pub sea_after : (water heat salt faces : List ℤ) → AreMixed rates.mix layers (length it.heights) left (length it.heights) water heat salt
+      → ((layer f : ℕ) → layer < layers → f < length it.links → at faces (layer * length it.links + f) ≡ number_after rates.slope it.heights (link_at it.links f) (at it.faces (layer * length it.links + f)))
+      → length water ≡ layers * cell_count mesh → length heat ≡ layers * cell_count mesh → length salt ≡ layers * cell_count mesh → length faces ≡ layers * face_count mesh
+      → ◌≡◌ {A = Sea} (record { water = water; heat = heat; salt = salt; faces = faces }) (stepped mesh layers rates sea)
+  unfolding stepped
+  sea_after water heat salt faces are numbers w h s f =
+      let each = cells_are water heat salt are in
+      let next_water = filled layers (cell_count mesh) (λ layer n. mixed rates.mix layers (λ l. (transported mesh layers rates sea l n).water) layer) water w (λ layer n l k. ap (λ (t : Salty). t.water) (each layer n l k)) in
+      let next_heat = filled layers (cell_count mesh) (λ layer n. mixed rates.mix layers (λ l. (transported mesh layers rates sea l n).heat) layer) heat h (λ layer n l k. ap (λ (t : Salty). t.heat) (each layer n l k)) in
+      let next_salt = filled layers (cell_count mesh) (λ layer n. mixed rates.mix layers (λ l. (transported mesh layers rates sea l n).salt) layer) salt s (λ layer n l k. ap (λ (t : Salty). t.salt) (each layer n l k)) in
+      let next_faces = filled layers (face_count mesh) (next_number mesh layers rates sea) faces f (numbers_are faces numbers) in
+      λ i. record { water = next_water i; heat = next_heat i; salt = next_salt i; faces = next_faces i }
+
+-- from what is lent
+abbrev pub begun_on : (mesh : Mesh) (layers : ℕ) (sea : Sea) (water heat salt column_water : List ℤ) (links : List Link) (faces_of : List CellFaces) (heights raised : List ℤ) (cells read_cells : List Salty) (faces : List ℤ)
     → IsSea mesh layers sea
-    → water ≡ sea.water → heat ≡ sea.heat → salt ≡ sea.salt → column_water ≡ sea.water → before ≡ sea.faces
-    → links ≡ links_of mesh → faces_of ≡ all_cell_faces mesh → heights ≡ raised → length raised ≡ cell_count mesh → cells ≡ read_cells → length rest ≡ layers * cell_count mesh
+    → water ≡ sea.water → heat ≡ sea.heat → salt ≡ sea.salt → column_water ≡ sea.water → faces ≡ sea.faces
+    → links ≡ links_of mesh → faces_of ≡ all_cell_faces mesh → heights ≡ raised → length raised ≡ cell_count mesh → cells ≡ read_cells
     → ((place : ℕ) → place < length water → ◌≡◌ {A = Salty} (salty_at read_cells place) (record { water = at water place; heat = at heat place; salt = at salt place }))
     → ((n : ℕ) → n < cell_count mesh → at raised n ≡ height_over (at mesh.area n) layers (cell_count mesh) column_water n)
-    → ((layer f : ℕ) → layer < layers → f < length links → at faces (layer * length links + f) ≡ number_after rates.slope heights (link_at links f) (at before (layer * length links + f)))
-    → ((layer n : ℕ) → layer < layers → n < length heights
-    → salty_at rest (layer * length heights + n) ≡ without (salty_at cells (layer * length heights + n)) (out_of (layer_flows rates.slope heights links cells before layer) (cell_faces_at faces_of n)))
-    → Passed mesh layers rates sea
-passed_on mesh layers rates sea water heat salt column_water links faces_of heights raised cells read_cells before faces rest is_sea w h s cw b l fo hs long cs count loads raises numbers left = record {
+    → Begun mesh layers sea
+begun_on mesh layers sea water heat salt column_water links faces_of heights raised cells read_cells faces is_sea w h s cw b l fo hs long cs loads raises = record {
   links = links;
   faces_of = faces_of;
   heights = heights;
   cells = cells;
   faces = faces;
-  rest = rest;
   links_are = l;
   faces_of_are = fo;
   heights_count = ap length hs ∙ long;
-  rest_count = count;
+  faces_are = b;
   raised = λ n k. ap (λ (t : List ℤ). at t n) hs ∙ raises n k ∙ ap (λ (t : List ℤ). height_over (at mesh.area n) layers (cell_count mesh) t n) cw;
   loaded = λ layer n k m.
       let place = layer * cell_count mesh + n in
       let below = place_below layers (cell_count mesh) layer n k m in
       let all : length water ≡ layers * cell_count mesh = ap length w ∙ is_sea.water.count in
       ap (λ (t : List Salty). salty_at t place) cs ∙ loads place (omega (arith, below, all)) ∙ (λ i. record { water = at (w i) place; heat = at (h i) place; salt = at (s i) place });
-  numbers = λ layer f k m. numbers layer f k m ∙ ap (λ (t : List ℤ). number_after rates.slope heights (link_at links f) (at t (layer * length links + f))) b;
-  left = λ layer n k m. left layer n k m
-      ∙ ap (λ (t : List ℤ). without (salty_at cells (layer * length heights + n)) (out_of (layer_flows rates.slope heights links cells t layer) (cell_faces_at faces_of n))) b;
 }
 
 -- amounts of a list that is lent

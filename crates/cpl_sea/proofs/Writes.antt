@@ -27,9 +27,21 @@ module _ {X : Type 0} (d : X) (xs : List X) (begin n : ℕ) (v : X) (within : be
       (λ k l. written_other (begin + k) (λ same. omega arith) ∙ done k l)
       (written_here ∙ e)
 
+  -- where only the places from one on do
+  pub written_from : (from : ℕ) (f : ℕ → X) → v ≡ f n → ((k : ℕ) → from ≤ k → k < n → slice_index_or xs (begin + k) d ≡ f k)
+      → (k : ℕ) → from ≤ k → k < n + 1 → slice_index_or (slice_set xs (begin + n) v) (begin + k) d ≡ f k
+  written_from from f e done k le l =
+      below_more (λ k. from ≤ k → slice_index_or (slice_set xs (begin + n) v) (begin + k) d ≡ f k) n
+      (λ k l le. written_other (begin + k) (λ same. omega arith) ∙ done k le l)
+      (λ le. written_here ∙ e) k l le
+
   pub written_behind : (ys : List X) → ((place : ℕ) → begin + n ≤ place → slice_index_or xs place d ≡ slice_index_or ys place d)
       → (place : ℕ) → begin + (n + 1) ≤ place → slice_index_or (slice_set xs (begin + n) v) place d ≡ slice_index_or ys place d
   written_behind ys rest place l = written_other place (λ same. omega arith) ∙ rest place (omega arith)
+
+  pub kept_before : (from : ℕ) → from ≤ n → (ys : List X) → ((place : ℕ) → place < begin + from → slice_index_or xs place d ≡ slice_index_or ys place d)
+      → (place : ℕ) → place < begin + from → slice_index_or (slice_set xs (begin + n) v) place d ≡ slice_index_or ys place d
+  kept_before from le ys before place l = written_other place (λ same. omega arith) ∙ before place l
 
   pub written_before : (ys : List X) → ((place : ℕ) → place < begin → slice_index_or xs place d ≡ slice_index_or ys place d)
       → (place : ℕ) → place < begin → slice_index_or (slice_set xs (begin + n) v) place d ≡ slice_index_or ys place d

@@ -1,5 +1,6 @@
 pub mod Links
 pub mod Lists
 pub mod Passes
+pub mod Blocks
 pub mod Rooms
 pub mod Seas

@@ -8,6 +8,7 @@ use Rattle.cpl_restart.specs.declared.whole.Whole.{Whole}
 use Rattle.cpl_restart.specs.Transport.{Sea, face_count}
 use Rattle.cpl_sea.specs.Links.{all_cell_faces, links_of}
 use Rattle.cpl_sea.specs.Seas.{IsOcean}
+use Rattle.cpl_sea.specs.declared.blocks.TheConstants.{BLOCK}
 use Rattle.cpl_sea.specs.declared.room.SeaRoom.{SeaRoom}
 
 -- the ocean that a step works on
@@ -22,9 +23,9 @@ pub record IsSeaRoom (mesh : Mesh) (layers : ℕ) (room : SeaRoom) : Type 0 wher
   pub links : room.links.items ≡ links_of mesh
   pub cell_faces : room.cell_faces.items ≡ all_cell_faces mesh
   pub heights : length room.heights.items ≡ cell_count mesh
-  pub flows : length room.flows.items ≡ face_count mesh
+  pub flows : length room.flows.items ≡ layers * face_count mesh
   pub cells : length room.cells.items ≡ layers * cell_count mesh
-  pub rest : length room.rest.items ≡ layers * cell_count mesh
+  pub rest : length room.rest.items ≡ layers * BLOCK
 
 -- a state with another ocean
 abbrev pub with_sea : Whole → Sea → Whole

@@ -8,7 +8,7 @@ ghost use Rattle.cpl_transport.specs.Mixing.{sum_of};
 ghost use Rattle.cpl_transport.specs.Salts.{AreSmall, IsSalty};
 ghost use Rattle.cpl_restart.specs.Diffusion.{AreAmounts, cell_count};
 ghost use Rattle.cpl_xgrid.specs.Lists.{IsArea, IsMesh};
-ghost use Rattle.cpl_sea.specs.Passes.{AreColumns, column_at, height_over, salty_at};
+ghost use Rattle.cpl_sea.specs.Passes.{AreColumns, column_at, height_over, salty_at, top_at};
 
 use cpl_ice::{NOTHING, Salty};
 use cpl_mosaic::Mesh;
@@ -129,13 +129,14 @@ fn mixed_cell(
     }
 }
 
-// Writes what the vertical exchange makes of a layer into the three lists of a state.
+// Writes what the vertical exchange makes of a layer of some columns into the three lists of a state, from a place of theirs on.
 pub(crate) fn mix_layer(
     mix: u32,
     layers: usize,
     cells: &[Salty],
     count: usize,
     layer: usize,
+    begin: usize,
     water: &mut [i64],
     heat: &mut [i64],
     salt: &mut [i64],
@@ -144,45 +145,18 @@ pub(crate) fn mix_layer(
     requires columns { AreColumns layers count (length cells.now) }
     requires cells { All IsSalty cells.now }
     requires layer { layer < layers }
-    requires water { length water.old ≡ length cells.now }
-    requires heat { length heat.old ≡ length cells.now }
-    requires salt { length salt.old ≡ length cells.now }
+    requires water { begin + count ≤ length water.old }
+    requires heat { length heat.old ≡ length water.old }
+    requires salt { length salt.old ≡ length water.old }
     ensures mixed { (n : ℕ) → n < count
-        → ◌≡◌ {A = Salty} (record { water = at water.new (layer * count + n); heat = at heat.new (layer * count + n); salt = at salt.new (layer * count + n) })
-        (mixed_cell mix layers (column_at count cells.now n) layer) }
-    ensures before { (place : ℕ) → place < layer * count
-        → (at water.new place ≡ at water.old place) × (at heat.new place ≡ at heat.old place) × (at salt.new place ≡ at salt.old place) }
+        → ◌≡◌ {A = Salty} (top_at water.new heat.new salt.new (begin + n)) (mixed_cell mix layers (column_at count cells.now n) layer) }
+    ensures before { (place : ℕ) → place < begin → ◌≡◌ {A = Salty} (top_at water.new heat.new salt.new place) (top_at water.old heat.old salt.old place) }
+    ensures behind { (place : ℕ) → begin + count ≤ place → ◌≡◌ {A = Salty} (top_at water.new heat.new salt.new place) (top_at water.old heat.old salt.old place) }
 {
-    let begin = layer * count;
     for n in 0..count {
         let cell = mixed_cell(mix, layers, cells, count, layer, n);
         water[begin + n] = cell.water;
         heat[begin + n] = cell.heat;
         salt[begin + n] = cell.salt;
-    }
-}
-
-// Writes what the vertical exchange makes of all layers into the three lists of a state.
-pub(crate) fn mix(
-    mix: u32,
-    layers: usize,
-    cells: &[Salty],
-    count: usize,
-    water: &mut [i64],
-    heat: &mut [i64],
-    salt: &mut [i64],
-)
-    requires mix { (2 ≤ mix) × (mix ≤ 40) }
-    requires columns { AreColumns layers count (length cells.now) }
-    requires cells { All IsSalty cells.now }
-    requires water { length water.old ≡ length cells.now }
-    requires heat { length heat.old ≡ length cells.now }
-    requires salt { length salt.old ≡ length cells.now }
-    ensures mixed { (layer n : ℕ) → layer < layers → n < count
-        → ◌≡◌ {A = Salty} (record { water = at water.new (layer * count + n); heat = at heat.new (layer * count + n); salt = at salt.new (layer * count + n) })
-        (mixed_cell mix layers (column_at count cells.now n) layer) }
-{
-    for layer in 0..layers {
-        mix_layer(mix, layers, cells, count, layer, water, heat, salt);
     }
 }

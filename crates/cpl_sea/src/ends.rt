@@ -10,19 +10,34 @@ ghost use Rattle.cpl_sea.specs.Passes.{top_at};
 use cpl_ice::{Salty, ToIce};
 use cpl_transport::cut;
 
-// Adds the k-th of the three numbers that each cell has in a flight to the first numbers of a list.
-pub(crate) fn add_every(flight: &[i64], k: usize, count: usize, xs: &mut [i64])
+// Adds the three numbers that each cell has in a flight to the first numbers of three lists.
+pub(crate) fn add_flight(
+    flight: &[i64],
+    count: usize,
+    water: &mut [i64],
+    heat: &mut [i64],
+    salt: &mut [i64],
+)
     requires flight { All IsAmount flight.now }
     requires flight_count { length flight.now ≡ 3 * count }
-    requires number { k < 3 }
     requires few { count < 2 ^ 32 }
-    requires amounts { All IsAmount xs.old }
-    requires within { count ≤ length xs.old }
-    ensures top { (n : ℕ) → n < count → at xs.new n ≡ at xs.old n +ℤ at flight.now (3 * n + k) }
-    ensures below { (place : ℕ) → count ≤ place → at xs.new place ≡ at xs.old place }
+    requires water { All IsAmount water.old }
+    requires heat { All IsAmount heat.old }
+    requires salt { All IsAmount salt.old }
+    requires water_count { count ≤ length water.old }
+    requires heat_count { length heat.old ≡ length water.old }
+    requires salt_count { length salt.old ≡ length water.old }
+    ensures water { (n : ℕ) → n < count → at water.new n ≡ at water.old n +ℤ at flight.now (3 * n) }
+    ensures heat { (n : ℕ) → n < count → at heat.new n ≡ at heat.old n +ℤ at flight.now (3 * n + 1) }
+    ensures salt { (n : ℕ) → n < count → at salt.new n ≡ at salt.old n +ℤ at flight.now (3 * n + 2) }
+    ensures water_below { (place : ℕ) → count ≤ place → at water.new place ≡ at water.old place }
+    ensures heat_below { (place : ℕ) → count ≤ place → at heat.new place ≡ at heat.old place }
+    ensures salt_below { (place : ℕ) → count ≤ place → at salt.new place ≡ at salt.old place }
 {
     for n in 0..count {
-        xs[n] += flight[3 * n + k];
+        water[n] += flight[3 * n];
+        heat[n] += flight[3 * n + 1];
+        salt[n] += flight[3 * n + 2];
     }
 }
 

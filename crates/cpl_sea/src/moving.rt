@@ -1,12 +1,12 @@
 // What moves through the faces of a layer, and what it leaves in the cells.
-ghost use Rattle.std.specs.Prelude.{◌≡◌, ◌+◌, ◌*◌, ◌<◌, ◌≤◌, ◌-◌, ◌^◌, ℕ, length, All};
+ghost use Rattle.std.specs.Prelude.{◌≡◌, ◌+◌, ◌<◌, ◌≤◌, ◌-◌, ◌^◌, ℕ, length, All};
 ghost use Rattle.cpl_fixed.specs.Amounts.{at};
 ghost use Rattle.cpl_ice.specs.declared.parts.Salty.{Salty};
 ghost use Rattle.cpl_transport.specs.Cells.{AreFew};
 ghost use Rattle.cpl_transport.specs.Heights.{IsFaceNumber, IsHeight};
 ghost use Rattle.cpl_transport.specs.Salts.{AreSmall, IsSalty, without};
 ghost use Rattle.cpl_sea.specs.Links.{seen_flow};
-ghost use Rattle.cpl_sea.specs.Passes.{AreColumns, AreSidesWithin, IsLinkWithin, IsSideWithin, layer_flows, cell_faces_at, flow_in, link_at, number_after, out_of, salty_at};
+ghost use Rattle.cpl_sea.specs.Passes.{AreSidesWithin, IsLinkWithin, IsSideWithin, cell_faces_at, flow_in, link_at, number_after, out_of, salty_at};
 
 use crate::links::{CellFaces, Link, SideFace};
 use cpl_ice::{NOTHING, Salty};
@@ -57,14 +57,16 @@ fn flow(cells: &[Salty], begin: usize, link: Link, u: i64) -> Salty
     }
 }
 
-// Moves the faces of a layer one step: each face's number, and what moves through it. The layer's cells and faces begin at these
-// places of all layers'.
+// Moves the faces from one number up to another of a layer one step: each face's number, and what moves through it. The layer's
+// cells and faces begin at these places of all layers'.
 pub(crate) fn move_layer(
     links: &[Link],
     heights: &[i64],
     slope: u32,
     cells: &[Salty],
     begin: usize,
+    from: usize,
+    to: usize,
     faces: &mut [i64],
     first: usize,
     flows: &mut [Salty],
@@ -75,23 +77,27 @@ pub(crate) fn move_layer(
     requires cells { All IsSalty cells.now }
     requires few { length cells.now < 2 ^ 32 }
     requires within { begin + length heights.now ≤ length cells.now }
+    requires order { from ≤ to }
+    requires links_within { to ≤ length links.now }
     requires faces { All IsFaceNumber faces.old }
     requires faces_within { first + length links.now ≤ length faces.old }
-    requires flows { length flows.old ≡ length links.now }
-    ensures numbers { (f : ℕ) → f < length links.now
+    requires flows { length flows.old ≡ length faces.old }
+    ensures numbers { (f : ℕ) → from ≤ f → f < to
         → at faces.new (first + f) ≡ number_after slope heights.now (link_at links.now f) (at faces.old (first + f)) }
-    ensures before { (place : ℕ) → place < first → at faces.new place ≡ at faces.old place }
-    ensures behind { (place : ℕ) → first + length links.now ≤ place → at faces.new place ≡ at faces.old place }
+    ensures before { (place : ℕ) → place < first + from → at faces.new place ≡ at faces.old place }
+    ensures behind { (place : ℕ) → first + to ≤ place → at faces.new place ≡ at faces.old place }
     ensures range { All IsFaceNumber faces.new }
-    ensures flows { (f : ℕ) → f < length links.now
-        → salty_at flows.new f ≡ flow_in cells.now begin (link_at links.now f) (at faces.new (first + f)) }
-    ensures small { All AreSmall flows.new }
+    ensures flows { (f : ℕ) → from ≤ f → f < to
+        → salty_at flows.new (first + f) ≡ flow_in cells.now begin (link_at links.now f) (at faces.new (first + f)) }
+    ensures small { (f : ℕ) → from ≤ f → f < to → AreSmall (salty_at flows.new (first + f)) }
+    ensures flows_before { (place : ℕ) → place < first + from → salty_at flows.new place ≡ salty_at flows.old place }
+    ensures flows_behind { (place : ℕ) → first + to ≤ place → salty_at flows.new place ≡ salty_at flows.old place }
 {
-    for f in 0..links.len() {
+    for f in from..to {
         let link = links[f];
         let place = first + f;
         let u = driven(slope, heights, link, faces[place]);
-        flows[f] = flow(cells, begin, link, u);
+        flows[place] = flow(cells, begin, link, u);
         faces[place] = u;
     }
 }
@@ -126,67 +132,27 @@ fn moved_out(flows: &[Salty], faces: CellFaces) -> Salty
     sum_of_sides(west, east, south, north)
 }
 
-// What the transport leaves in the cells of a layer, which begin at this place of all layers'.
+// What the transport leaves in some cells of a layer, which begin at this place of all layers', is put at a place of its own.
 pub(crate) fn leave_layer(
     faces: &[CellFaces],
     flows: &[Salty],
     cells: &[Salty],
     begin: usize,
     rest: &mut [Salty],
+    place: usize,
 )
     requires faces { All (AreSidesWithin (length flows.now)) faces.now }
     requires flows { All AreSmall flows.now }
     requires cells { All IsSalty cells.now }
     requires few { length cells.now < 2 ^ 32 }
     requires within { begin + length faces.now ≤ length cells.now }
-    requires rest { length rest.old ≡ length cells.now }
+    requires rest { place + length faces.now ≤ length rest.old }
     ensures left { (n : ℕ) → n < length faces.now
-        → salty_at rest.new (begin + n) ≡ without (salty_at cells.now (begin + n)) (out_of (salty_at flows.now) (cell_faces_at faces.now n)) }
-    ensures before { (place : ℕ) → place < begin → salty_at rest.new place ≡ salty_at rest.old place }
+        → salty_at rest.new (place + n) ≡ without (salty_at cells.now (begin + n)) (out_of (salty_at flows.now) (cell_faces_at faces.now n)) }
+    ensures before { (spot : ℕ) → spot < place → salty_at rest.new spot ≡ salty_at rest.old spot }
 {
     for n in 0..faces.len() {
         let out = moved_out(flows, faces[n]);
-        rest[begin + n] = without(cells[begin + n], out);
-    }
-}
-
-// The transport through the faces of all layers, all at once: each face's number, and what is left in each cell.
-pub(crate) fn transport(
-    links: &[Link],
-    cell_faces: &[CellFaces],
-    heights: &[i64],
-    slope: u32,
-    layers: usize,
-    cells: &[Salty],
-    faces: &mut [i64],
-    flows: &mut [Salty],
-    rest: &mut [Salty],
-)
-    requires slope { slope ≤ 40 }
-    requires columns { AreColumns layers (length heights.now) (length cells.now) }
-    requires heights { All IsHeight heights.now }
-    requires cell_faces { All (AreSidesWithin (length links.now)) cell_faces.now }
-    requires cell_count { length cell_faces.now ≡ length heights.now }
-    requires links { All (IsLinkWithin (length heights.now)) links.now }
-    requires few { length links.now ≤ 4 * length heights.now }
-    requires cells { All IsSalty cells.now }
-    requires faces { All IsFaceNumber faces.old }
-    requires face_count { length faces.old ≡ layers * length links.now }
-    requires flows { length flows.old ≡ length links.now }
-    requires rest { length rest.old ≡ length cells.now }
-    ensures faces { (layer f : ℕ) → layer < layers → f < length links.now
-        → at faces.new (layer * length links.now + f)
-        ≡ number_after slope heights.now (link_at links.now f) (at faces.old (layer * length links.now + f)) }
-    ensures rest { (layer n : ℕ) → layer < layers → n < length heights.now
-        → salty_at rest.new (layer * length heights.now + n)
-        ≡ without (salty_at cells.now (layer * length heights.now + n))
-        (out_of (layer_flows slope heights.now links.now cells.now faces.old layer) (cell_faces_at cell_faces.now n)) }
-{
-    let count = heights.len();
-    for layer in 0..layers {
-        let begin = layer * count;
-        let first = layer * links.len();
-        move_layer(links, heights, slope, cells, begin, faces, first, flows);
-        leave_layer(cell_faces, flows, cells, begin, rest);
+        rest[place + n] = without(cells[begin + n], out);
     }
 }

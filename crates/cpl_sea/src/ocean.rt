@@ -10,7 +10,7 @@ ghost use Rattle.cpl_restart.specs.Transport.{stepped};
 ghost use Rattle.cpl_sea.specs.Rooms.{HasSameRoom, IsSeaRoom, sea_in, with_sea};
 ghost use Rattle.cpl_sea.specs.Seas.{IsSea};
 
-use crate::ends::{add_every, cut_top};
+use crate::ends::{add_flight, cut_top};
 use crate::room::SeaRoom;
 use cpl_fixed::Rates;
 use cpl_mosaic::Mesh;
@@ -40,9 +40,13 @@ impl SeaRoom {
         ensures room { IsSeaRoom mesh.now layers self.new }
     {
         let count = mesh.mosaic.cells() as usize;
-        add_every(flight, 0, count, self.water.as_mut_slice());
-        add_every(flight, 1, count, self.heat.as_mut_slice());
-        add_every(flight, 2, count, self.salt.as_mut_slice());
+        add_flight(
+            flight,
+            count,
+            self.water.as_mut_slice(),
+            self.heat.as_mut_slice(),
+            self.salt.as_mut_slice(),
+        );
     }
 
     // Cuts what leaves the top layer of the ocean in the room.

@@ -7,11 +7,11 @@ ghost use Rattle.cpl_restart.specs.Transport.{stepped};
 ghost use Rattle.cpl_sea.specs.Rooms.{IsSeaRoom, sea_in};
 ghost use Rattle.cpl_sea.specs.Seas.{IsSea};
 
+use crate::blocks::{BLOCK, pass_blocks};
 use crate::cell_faces::cell_faces;
-use crate::columns::{load, mix, raise};
+use crate::columns::{load, raise};
 use crate::links::{CellFaces, Link};
 use crate::lookups::links;
-use crate::moving::transport;
 use cpl_faces::faces;
 use cpl_fixed::Rates;
 use cpl_ice::{NOTHING, Salty};
@@ -25,8 +25,9 @@ pub struct SeaRoom {
     pub(crate) links: Vec<Link>,
     pub(crate) cell_faces: Vec<CellFaces>,
     pub(crate) heights: Vec<i64>,
+    // What moves through the faces of all layers.
     pub(crate) flows: Vec<Salty>,
-    // The cells before the step, and what the transport leaves in them.
+    // The cells before the step, and what the transport leaves in those of a block.
     pub(crate) cells: Vec<Salty>,
     pub(crate) rest: Vec<Salty>,
     // These change places with the lists of a state while a step works on them.
@@ -47,14 +48,15 @@ impl SeaRoom {
         let mesh = &grid.ocean;
         let cells = mesh.mosaic.cells() as usize;
         let faces = faces(alloc, &mesh.mosaic)?;
-        let all = grid.column.layers as usize * cells;
+        let layers = grid.column.layers as usize;
+        let all = layers * cells;
         Ok(SeaRoom {
             links: links(alloc, mesh, faces.as_slice())?,
             cell_faces: cell_faces(alloc, mesh, faces.as_slice())?,
             heights: vec![in alloc; 0; cells]?,
-            flows: vec![in alloc; NOTHING; faces.len()]?,
+            flows: vec![in alloc; NOTHING; layers * faces.len()]?,
             cells: vec![in alloc; NOTHING; all]?,
-            rest: vec![in alloc; NOTHING; all]?,
+            rest: vec![in alloc; NOTHING; layers * BLOCK]?,
             water: Vec::new(alloc),
             heat: Vec::new(alloc),
             salt: Vec::new(alloc),
@@ -83,22 +85,17 @@ impl SeaRoom {
             layers,
             self.heights.as_mut_slice(),
         );
-        transport(
+        pass_blocks(
             self.links.as_slice(),
             self.cell_faces.as_slice(),
             self.heights.as_slice(),
             rates.slope,
+            rates.mix,
             layers,
             self.cells.as_slice(),
             self.faces.as_mut_slice(),
             self.flows.as_mut_slice(),
             self.rest.as_mut_slice(),
-        );
-        mix(
-            rates.mix,
-            layers,
-            self.rest.as_slice(),
-            self.heights.len(),
             self.water.as_mut_slice(),
             self.heat.as_mut_slice(),
             self.salt.as_mut_slice(),

@@ -8,12 +8,13 @@ pub loop-n-preserved : goal.loop-n-preserved
 loop-n-preserved c =
     let n = c.loop-n.n in
     let begin = c.args.begin in
+    let place = c.args.place in
     let rest = c.loop-n.rest in
     let cells = c.args.cells.now in
-    let within : begin + n < length rest = omega arith in
+    let within : place + n < length rest = omega arith in
     let value : c.without.result ≡ without (salty_at cells (begin + n)) (out_of (salty_at c.args.flows.now) (cell_faces_at c.args.faces.now n)) =
     c.without.ensures ∙ ap (without (salty_at cells (begin + n))) c.moved_out-out.ensures.value in
     record {
-      left = written nothing rest begin n c.without.result within (λ k. without (salty_at cells (begin + k)) (out_of (salty_at c.args.flows.now) (cell_faces_at c.args.faces.now k))) value c.loop-n.invariant.left;
-      before = written_before nothing rest begin n c.without.result within c.args.rest.now c.loop-n.invariant.before;
+      left = written nothing rest place n c.without.result within (λ k. without (salty_at cells (begin + k)) (out_of (salty_at c.args.flows.now) (cell_faces_at c.args.faces.now k))) value c.loop-n.invariant.left;
+      before = written_before nothing rest place n c.without.result within c.args.rest.now c.loop-n.invariant.before;
     }

@@ -5,6 +5,6 @@ use Rattle.cpl_sea.proofs.moving.leave_layer.Given as goal
 
 abbrev pub invariant-loop-n : goal.invariant-loop-n
 invariant-loop-n l = record {
-  left : (k : ℕ) → k < l.n → salty_at l.rest (l.begin + k) ≡ without (salty_at l.cells (l.begin + k)) (out_of (salty_at l.flows) (cell_faces_at l.faces k));
-  before : (place : ℕ) → place < l.begin → salty_at l.rest place ≡ salty_at l.initial.rest place;
+  left : (k : ℕ) → k < l.n → salty_at l.rest (l.place + k) ≡ without (salty_at l.cells (l.begin + k)) (out_of (salty_at l.flows) (cell_faces_at l.faces k));
+  before : (spot : ℕ) → spot < l.place → salty_at l.rest spot ≡ salty_at l.initial.rest spot;
 }
