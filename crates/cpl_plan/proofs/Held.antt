@@ -6,7 +6,7 @@ use Rattle.std.proofs.lemmas.Int.{ints}
 use Rattle.std.proofs.Math.IntN.{pos-*ℤ-pos}
 use Rattle.cpl_restart.specs.Stocks.{Stocks as StocksOf, sum_of_stocks}
 use Rattle.cpl_plan.specs.declared.stocks.Stocks.{Stocks}
-use Rattle.cpl_plan.specs.Sums.{AreSmall, AreStocks}
+use Rattle.cpl_plan.specs.Sums.{AreSmall, AreStocks, held_of}
 use Rattle.cpl_plan.proofs.Few.{IsAdded, added, as_word, word}
 
 -- one part after another
@@ -30,13 +30,17 @@ module _ (stocks : Stocks) (small : AreSmall stocks) where
   abbrev all_words : ℤ
   all_words = as_word (as_word (as_word (as_word (as_word (as_word stocks.air +ℤ as_word stocks.land) +ℤ as_word stocks.ice) +ℤ as_word stocks.ocean) +ℤ as_word stocks.to_ice) +ℤ as_word stocks.to_ocean)
 
-  pub held_is : (of : StocksOf) → AreStocks of stocks → all_words ≡ sum_of_stocks of
-  held_is of are = with_to_ocean.is ∙ (λ i. are.air i +ℤ are.land i +ℤ are.ice i +ℤ are.ocean i +ℤ are.to_ice i +ℤ are.to_ocean i)
+  pub held_is : all_words ≡ sum_of_stocks (held_of stocks)
+  held_is = with_to_ocean.is
 
   pub held_small : (pos 0 ≤ℤ all_words) × (all_words <ℤ pos (2 ^ 100))
   held_small =
       let P = λ (z : ℤ). (pos 0 ≤ℤ z) × (z <ℤ pos (2 ^ 100)) in
       subst P (sym with_to_ocean.is) (omega (arith, ints, small.air.0, small.land.0, small.ice.0, small.ocean.0, small.to_ice.0, small.to_ocean.0), omega (arith, ints, small.air.1, small.land.1, small.ice.1, small.ocean.1, small.to_ice.1, small.to_ocean.1))
+
+-- stocks of a state hold together what it holds
+pub all_held : (of : StocksOf) (stocks : Stocks) → AreStocks of stocks → sum_of_stocks (held_of stocks) ≡ sum_of_stocks of
+all_held of stocks are = λ i. are.air i +ℤ are.land i +ℤ are.ice i +ℤ are.ocean i +ℤ are.to_ice i +ℤ are.to_ocean i
 
 -- THE SUN
 

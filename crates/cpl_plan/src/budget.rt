@@ -7,12 +7,12 @@ ghost use Rattle.cpl_namelist.specs.Ranges.{AreNames};
 ghost use Rattle.cpl_xgrid.specs.Grids.{IsGrid};
 ghost use Rattle.cpl_restart.specs.Budget.{budget_fault, budget_of, greatest, if_above, sun_of_strength, sun_to_come};
 ghost use Rattle.cpl_restart.specs.States.{IsWhole};
-ghost use Rattle.cpl_restart.specs.Stocks.{held};
+ghost use Rattle.cpl_restart.specs.Stocks.{sum_of_stocks};
 ghost use Rattle.cpl_plan.specs.Faults.{Judges, over_budget};
-ghost use Rattle.cpl_plan.specs.Sums.{AreFew};
+ghost use Rattle.cpl_plan.specs.Sums.{AreFew, AreSmall, held_of};
 
 use crate::error::PlanError;
-use crate::stocks::{few_numbers, stocks_of};
+use crate::stocks::{Stocks, few_numbers, holdings_of};
 use cpl_fixed::{MOST_TOTAL, Quantity};
 use cpl_namelist::Names;
 use cpl_restart::Whole;
@@ -56,14 +56,12 @@ fn sun_to_come(names: &Names, start: &Whole) -> i128
     i128::from(u64::from(names.steps) * u64::from(names.fast)) * most
 }
 
-// All that a state holds of a quantity.
-fn held(grid: &Grid, whole: &Whole, quantity: Quantity) -> i128
-    requires grid { IsGrid grid.now }
-    requires whole { IsWhole grid.now whole.now }
-    ensures value { result ≡ held grid.now whole.now quantity }
+// All of these stocks together.
+fn held(stocks: &Stocks) -> i128
+    requires { AreSmall stocks.now }
+    ensures value { result ≡ sum_of_stocks (held_of stocks.now) }
     ensures small { (pos 0 ≤ℤ result) × (result <ℤ pos (2 ^ 100)) }
 {
-    let stocks = stocks_of(grid, whole, quantity);
     stocks.air + stocks.land + stocks.ice + stocks.ocean + stocks.to_ice + stocks.to_ocean
 }
 
@@ -91,8 +89,9 @@ pub(crate) fn judge_budget(grid: &Grid, names: &Names, start: &Whole) -> Result<
     ensures { Judges (option_map over_budget (budget_fault grid.now names.now start.now)) result }
 {
     few_numbers(grid, start);
-    let heat = held(grid, start, Quantity::Heat) + sun_to_come(names, start);
-    let water = held(grid, start, Quantity::Water);
-    let salt = held(grid, start, Quantity::Salt);
+    let holdings = holdings_of(grid, start);
+    let heat = held(&holdings.heat) + sun_to_come(names, start);
+    let water = held(&holdings.water);
+    let salt = held(&holdings.salt);
     judge_totals(heat, water, salt)
 }

@@ -8,4 +8,4 @@ mod stocks;
 
 pub use error::PlanError;
 pub use plan::Plan;
-pub use stocks::{Stocks, stocks_of};
+pub use stocks::{Holdings, Stocks, holdings_of};

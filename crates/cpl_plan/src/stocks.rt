@@ -1,14 +1,10 @@
 // What a state holds.
-ghost use Rattle.std.specs.Prelude.{◌≡◌, ◌≤◌, ◌<◌, ◌*◌, ◌^◌, length, pos};
+ghost use Rattle.std.specs.Prelude.{◌≡◌, ◌+◌, ◌≤◌, ◌<◌, ◌*◌, length};
 ghost use Rattle.cpl_fixed.specs.Totals.{total_of};
-ghost use Rattle.cpl_fixed.specs.declared.words.Quantity.TheVariants.{Heat, Water, Salt};
 ghost use Rattle.cpl_xgrid.specs.Grids.{IsGrid};
-ghost use Rattle.cpl_restart.specs.States.{IsWhole, of_cell};
-ghost use Rattle.cpl_restart.specs.FastStep.{for_each};
-ghost use Rattle.cpl_restart.specs.Stocks.{stocks_of};
-ghost use Rattle.cpl_plan.specs.Sums.{AreFew, AreSmall, AreStocks, HasFew, IsSmall};
+ghost use Rattle.cpl_restart.specs.States.{IsWhole};
+ghost use Rattle.cpl_plan.specs.Sums.{AreAdded, AreFew, AreHoldings, AreTotals, HasFew, HasRoom, IsSmall};
 
-use cpl_fixed::Quantity;
 use cpl_restart::Whole;
 use cpl_xgrid::Grid;
 
@@ -23,32 +19,59 @@ pub struct Stocks {
     pub to_ocean: i128,
 }
 
-// The sum of amounts.
+/// The stocks of all three quantities, each in units of its own: heat on the project's scale, water, vapour and ice in units of
+/// water, and salt, of which neither air nor land nor ice has any.
+#[derive(Clone, Copy, Debug, PartialEq, Eq)]
+pub struct Holdings {
+    pub heat: Stocks,
+    pub water: Stocks,
+    pub salt: Stocks,
+}
+
+// What half a word of 64 bits can hold, and one more.
+const HALF: u64 = 4_294_967_296;
+
+// The sum of amounts: the low and the high halves of their words are summed apart, and neither sum passes a word.
 fn total(amounts: &[i64]) -> i128
     requires { AreFew amounts.now }
     ensures value { result ≡ total_of amounts.now }
     ensures small { IsSmall result }
 {
-    let mut total = 0u128;
+    let mut low = 0u64;
+    let mut high = 0u64;
     for amount in amounts {
-        total += u128::from(*amount as u64);
+        let word = *amount as u64;
+        low += word % HALF;
+        high += word / HALF;
     }
-    total as i128
+    (u128::from(high) * u128::from(HALF) + u128::from(low)) as i128
 }
 
-// The sum over cells of the number at a place, where each cell has `width` numbers in turn.
-fn total_at(cells: usize, width: usize, place: usize, amounts: &[i64]) -> i128
+// Adds the numbers of the n-th cell to a sum for each place, where each cell has as many numbers as there are sums.
+fn add_cell<const N: usize>(sums: &mut [u128; N], amounts: &[i64], n: usize)
     requires amounts { AreFew amounts.now }
-    requires place { place < width }
-    requires length { length amounts.now ≡ width * cells }
-    ensures value { result ≡ total_of (for_each cells (λ n. of_cell width n place amounts.now)) }
-    ensures small { IsSmall result }
+    requires within { n * N + N ≤ length amounts.now }
+    requires room { HasRoom N n sums.old }
+    ensures sums { AreAdded N n amounts.now sums.old sums.new }
 {
-    let mut total = 0u128;
-    for n in 0..cells {
-        total += u128::from(amounts[n * width + place] as u64);
+    let start = n * N;
+    for k in 0..N {
+        sums[k] += u128::from(amounts[start + k] as u64);
     }
-    total as i128
+}
+
+// The sums over cells of the numbers at each place.
+fn totals<const N: usize>(cells: usize, amounts: &[i64]) -> [u128; N]
+    requires amounts { AreFew amounts.now }
+    requires some { 0 < N }
+    requires length { length amounts.now ≡ N * cells }
+    ensures { AreTotals N cells amounts.now result }
+{
+    let mut sums = [0; N];
+    for n in 0..cells {
+        add_cell(&mut sums, amounts, n);
+    }
+    sums
 }
 
 // A lawful state has so few numbers that none of its sums is large. No work is done.
@@ -62,79 +85,39 @@ pub(crate) fn few_numbers(grid: &Grid, whole: &Whole)
     let _ocean = grid.ocean.mosaic.cells();
 }
 
-// The heat of all parts of the model.
-fn heat_stocks(grid: &Grid, whole: &Whole) -> Stocks
+/// What a state holds, part by part. Each list is gone through once. It takes no memory.
+pub fn holdings_of(grid: &Grid, whole: &Whole) -> Holdings
     requires grid { IsGrid grid.now }
     requires whole { IsWhole grid.now whole.now }
-    ensures value { AreStocks (stocks_of grid.now whole.now Heat) result }
-    ensures small { AreSmall result }
+    ensures { AreHoldings grid.now whole.now result }
 {
     few_numbers(grid, whole);
     let cells = grid.ocean.mosaic.cells() as usize;
-    let to_ice = whole.to_ice.as_slice();
-    let frazil = total_at(cells, 5, 1, to_ice);
-    let skin = total_at(cells, 5, 3, to_ice);
-    Stocks {
+    let to_ice: [u128; 5] = totals(cells, whole.to_ice.as_slice());
+    let to_ocean: [u128; 3] = totals(cells, whole.to_ocean.as_slice());
+    let heat = Stocks {
         air: total(whole.air_heat.as_slice()),
         land: total(whole.land_heat.as_slice()),
         ice: total(whole.ice_heat.as_slice()),
         ocean: total(whole.heat.as_slice()),
-        to_ice: frazil + skin,
-        to_ocean: total_at(cells, 3, 1, whole.to_ocean.as_slice()),
-    }
-}
-
-// Their water, vapour and ice with it.
-fn water_stocks(grid: &Grid, whole: &Whole) -> Stocks
-    requires grid { IsGrid grid.now }
-    requires whole { IsWhole grid.now whole.now }
-    ensures value { AreStocks (stocks_of grid.now whole.now Water) result }
-    ensures small { AreSmall result }
-{
-    few_numbers(grid, whole);
-    let cells = grid.ocean.mosaic.cells() as usize;
-    let to_ice = whole.to_ice.as_slice();
-    let frazil = total_at(cells, 5, 0, to_ice);
-    let skin = total_at(cells, 5, 2, to_ice);
-    Stocks {
+        to_ice: (to_ice[1] + to_ice[3]) as i128,
+        to_ocean: to_ocean[1] as i128,
+    };
+    let water = Stocks {
         air: total(whole.air_vapour.as_slice()),
         land: total(whole.land_water.as_slice()),
         ice: total(whole.ice.as_slice()),
         ocean: total(whole.water.as_slice()),
-        to_ice: frazil + skin,
-        to_ocean: total_at(cells, 3, 0, whole.to_ocean.as_slice()),
-    }
-}
-
-// Their salt, of which neither air nor land nor ice has any.
-fn salt_stocks(grid: &Grid, whole: &Whole) -> Stocks
-    requires grid { IsGrid grid.now }
-    requires whole { IsWhole grid.now whole.now }
-    ensures value { AreStocks (stocks_of grid.now whole.now Salt) result }
-    ensures small { AreSmall result }
-{
-    few_numbers(grid, whole);
-    let cells = grid.ocean.mosaic.cells() as usize;
-    Stocks {
+        to_ice: (to_ice[0] + to_ice[2]) as i128,
+        to_ocean: to_ocean[0] as i128,
+    };
+    let salt = Stocks {
         air: 0,
         land: 0,
         ice: 0,
         ocean: total(whole.salt.as_slice()),
-        to_ice: total_at(cells, 5, 4, whole.to_ice.as_slice()),
-        to_ocean: total_at(cells, 3, 2, whole.to_ocean.as_slice()),
-    }
-}
-
-/// What a state holds of a quantity, part by part. It takes no memory.
-pub fn stocks_of(grid: &Grid, whole: &Whole, quantity: Quantity) -> Stocks
-    requires grid { IsGrid grid.now }
-    requires whole { IsWhole grid.now whole.now }
-    ensures value { AreStocks (stocks_of grid.now whole.now quantity) result }
-    ensures small { AreSmall result }
-{
-    match quantity {
-        Quantity::Heat => heat_stocks(grid, whole),
-        Quantity::Water => water_stocks(grid, whole),
-        Quantity::Salt => salt_stocks(grid, whole),
-    }
+        to_ice: to_ice[4] as i128,
+        to_ocean: to_ocean[2] as i128,
+    };
+    Holdings { heat, water, salt }
 }

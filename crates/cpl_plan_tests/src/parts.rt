@@ -6,10 +6,10 @@ ghost use Rattle.cpl_restart.specs.Diffusion.{IsAirArea, IsAirMesh};
 ghost use Rattle.cpl_restart.specs.States.{IsWhole};
 ghost use Rattle.cpl_xgrid.specs.Grids.{IsGrid};
 
-use cpl_fixed::{MOST_AREA, Quantity};
+use cpl_fixed::MOST_AREA;
 use cpl_gridfile::read_grid;
 use cpl_namelist::Names;
-use cpl_plan::{Plan, PlanError, Stocks, stocks_of};
+use cpl_plan::{Holdings, Plan, PlanError, holdings_of};
 use cpl_restart::{Whole, decode};
 use cpl_xgrid::Grid;
 use std::alloc::{AllocError, Global};
@@ -42,7 +42,7 @@ fn are_areas(area: &[i64]) -> bool
     area.iter().all(|a| *a > 0 && *a as u64 <= MOST_AREA)
 }
 
-fn column(alloc: Global) -> Result<Grid, Fail>
+pub(crate) fn column(alloc: Global) -> Result<Grid, Fail>
     ensures grid { IfOk result IsGrid }
     ensures air { IfOk result (λ grid. IsAirMesh grid.air) }
 {
@@ -52,7 +52,7 @@ fn column(alloc: Global) -> Result<Grid, Fail>
     }
 }
 
-fn names(text: &str) -> Result<Names, Fail>
+pub(crate) fn names(text: &str) -> Result<Names, Fail>
     ensures { IfOk result AreNames }
 {
     let bytes = text.as_bytes();
@@ -66,7 +66,7 @@ fn names(text: &str) -> Result<Names, Fail>
 }
 
 /// The restart of version 1 that has these numbers, sections with their counts one after another.
-fn restart(alloc: Global, start: Start) -> Result<Vec<u8>, AllocError> {
+pub(crate) fn restart(alloc: Global, start: Start) -> Result<Vec<u8>, AllocError> {
     let Start {
         elapsed,
         water,
@@ -108,8 +108,8 @@ pub(crate) fn fault(alloc: Global, text: &str, numbers: Start) -> Result<Option<
 }
 
 /// What the start of such a run holds.
-pub(crate) fn stocks(alloc: Global, numbers: Start, quantity: Quantity) -> Result<Stocks, Fail> {
+pub(crate) fn holdings(alloc: Global, numbers: Start) -> Result<Holdings, Fail> {
     let grid = column(alloc)?;
     let whole = state(alloc, &grid, numbers)?;
-    Ok(stocks_of(&grid, &whole, quantity))
+    Ok(holdings_of(&grid, &whole))
 }

@@ -1,7 +1,10 @@
 // Expected totals are worked out by hand: beside the ocean, the start holds 269,620 of heat, 150 of water and 15 of salt.
-use crate::parts::{Start, fault, stocks};
+use crate::fast::first_fast_step;
+use crate::parts::{Start, fault, holdings};
+use crate::step::first_step;
 use cpl_fixed::{Component, LayoutError, Quantity};
-use cpl_plan::{PlanError, Stocks};
+use cpl_plan::{Holdings, PlanError, Stocks};
+use cpl_whole::{FastTally, StepTally};
 use std::test::Fail;
 
 /// An hour of two fast steps in March; in July the sun is the strongest, with twice its numbers.
@@ -126,46 +129,114 @@ fn the_first_fault_is_told(rt: HostRuntime) -> Result<(), Fail> {
 }
 
 /// Air, land, ice, ocean, and what flies to the ice and to the ocean.
-const HELD: [(Quantity, Stocks); 3] = [
-    (
-        Quantity::Heat,
-        Stocks {
-            air: 44_800,
-            land: 10_920,
-            ice: 0,
-            ocean: 570_400,
-            to_ice: 142_600,
-            to_ocean: 71_300,
-        },
-    ),
-    (
-        Quantity::Water,
-        Stocks {
-            air: 0,
-            land: 0,
-            ice: 0,
-            ocean: 400,
-            to_ice: 100,
-            to_ocean: 50,
-        },
-    ),
-    (
-        Quantity::Salt,
-        Stocks {
-            air: 0,
-            land: 0,
-            ice: 0,
-            ocean: 40,
-            to_ice: 10,
-            to_ocean: 5,
-        },
-    ),
-];
+const HELD: Holdings = Holdings {
+    heat: Stocks {
+        air: 44_800,
+        land: 10_920,
+        ice: 0,
+        ocean: 570_400,
+        to_ice: 142_600,
+        to_ocean: 71_300,
+    },
+    water: Stocks {
+        air: 0,
+        land: 0,
+        ice: 0,
+        ocean: 400,
+        to_ice: 100,
+        to_ocean: 50,
+    },
+    salt: Stocks {
+        air: 0,
+        land: 0,
+        ice: 0,
+        ocean: 40,
+        to_ice: 10,
+        to_ocean: 5,
+    },
+};
 
 #[test]
-fn stocks_of_a_column(rt: HostRuntime) -> Result<(), Fail> {
-    for (quantity, held) in HELD {
-        assert_eq!(rt; stocks(rt.alloc(), START, quantity)?, held);
+fn holdings_of_a_column(rt: HostRuntime) -> Result<(), Fail> {
+    assert_eq!(rt; holdings(rt.alloc(), START)?, HELD);
+    Ok(())
+}
+
+#[test]
+fn a_full_ocean_is_summed_exactly(rt: HostRuntime) -> Result<(), Fail> {
+    let full = holdings(rt.alloc(), FULL)?;
+    assert_eq!(rt; full.heat.ocean, i128::from(MOST - 269_620));
+    assert_eq!(rt; full.salt.ocean, i128::from(MOST));
+    Ok(())
+}
+
+/// The hour of the example: one fast step and one of the ocean.
+const EXAMPLE: &str =
+    "&coupler_nml current_date = 2001,3,1,0,0,0, calendar = 'gregorian', hours = 1, dt_atmos = 3600, dt_cpld = 3600 /
+&air_nml ke = 65536, rc = 0 /
+&ocean_nml dt_ocean = 3600 /
+";
+
+/// From air to land and to ice, from land to ice, from the ocean to the ice and back: heat, water and salt of each. The ocean gives
+/// a quarter of what it holds after it added the flight; what it and the ice take is the start's flights.
+const MOVED: StepTally = StepTally {
+    entered: 140,
+    left: 43,
+    gave: [
+        27, 0, 0, -12_770, -2, 0, 0, 0, 0, 160_425, 112, 11, 129_938, 98, 10,
+    ],
+    took: [
+        27, 0, 0, -12_770, -2, 0, 0, 0, 0, 142_600, 100, 10, 71_300, 50, 5,
+    ],
+};
+
+#[test]
+fn a_step_of_a_column(rt: HostRuntime) -> Result<(), Fail> {
+    let (tally, whole) = first_step(rt.alloc(), EXAMPLE, START)?;
+    assert_eq!(rt; tally, MOVED);
+    assert_eq!(rt; whole.elapsed, 3_600);
+    let lists = [
+        (&whole.air_heat, [57_500].as_slice()),
+        (&whole.air_vapour, [2].as_slice()),
+        (&whole.land_heat, [10_979].as_slice()),
+        (&whole.land_water, [0].as_slice()),
+        (&whole.water, [338].as_slice()),
+        (&whole.heat, [481_275].as_slice()),
+        (&whole.salt, [34].as_slice()),
+        (&whole.to_ice, [0, 0, 112, 160_425, 11].as_slice()),
+        (&whole.to_ocean, [98, 129_938, 10].as_slice()),
+    ];
+    for (list, numbers) in lists {
+        assert_eq!(rt; list.as_slice(), numbers);
+    }
+    Ok(())
+}
+
+/// The fast step of that hour. For the land element the heat flux is 27, and nothing evaporates; for the skin element 82 of heat flow
+/// down, 4 of water evaporate and 2 of rain fall, so the skin takes 82 - 4 * VAPOUR_HEAT + 2 * WATER_HEAT of heat, with 3,926 and
+/// 1,426: -12,770. The sun absorbed is 32 and 108, and 43 of heat go to space.
+const FLOWED: FastTally = FastTally {
+    entered: 140,
+    left: 43,
+    gave: [27, 0, -12_770, -2],
+    took: [27, 0, -12_770, -2],
+};
+
+#[test]
+fn a_fast_step_of_a_column(rt: HostRuntime) -> Result<(), Fail> {
+    let (tally, mid) = first_fast_step(rt.alloc(), EXAMPLE, START)?;
+    assert_eq!(rt; tally, FLOWED);
+    let lists = [
+        (&mid.whole.air_heat, [57_500].as_slice()),
+        (&mid.whole.air_vapour, [2].as_slice()),
+        (&mid.whole.land_heat, [10_979].as_slice()),
+        (&mid.whole.land_water, [0].as_slice()),
+        (&mid.skin_water, [98].as_slice()),
+        (&mid.skin_heat, [129_938].as_slice()),
+        (&mid.skin_salt, [10].as_slice()),
+    ];
+    for (list, numbers) in lists {
+        assert_eq!(rt; list.as_slice(), numbers);
     }
     Ok(())
 }

@@ -1,21 +1,15 @@
 -- Sums over gains, one gain after another.
-use Rattle.std.proofs.Common.{◌≡◌, ◌∙◌, refl, sym, ap, subst, ℕ, suc, ◌+◌, ◌<◌, ◌≤◌, ◌^◌, arith, List, [], ◌∷◌, length, add-one}
+use Rattle.std.proofs.Common.{◌≡◌, ◌∙◌, refl, sym, ap, subst, ℕ, suc, ◌+◌, ◌<◌, ◌≤◌, ◌^◌, arith, List, [], ◌∷◌, length}
 use Rattle.std.specs.Prelude.{ℤ, ◌+ℤ◌}
 use Rattle.std.proofs.lemmas.Int.{ints}
 use Rattle.cpl_fixed.specs.Totals.{total_of}
 use Rattle.cpl_fixed.specs.declared.gain.Gain.{Gain}
-use Rattle.cpl_fixed.specs.declared.rates.Rates.{Rates}
-use Rattle.cpl_xgrid.specs.declared.grid.Grid.{Grid}
-use Rattle.cpl_restart.specs.declared.whole.Whole.{Whole}
-use Rattle.cpl_restart.specs.States.{land_cells, ocean_cells}
 use Rattle.cpl_restart.specs.FastStep.{for_each}
-use Rattle.cpl_restart.specs.Slow.{arrived, runoff_of}
 use Rattle.cpl_restart.specs.SlowLaws.{IsGainAmount}
 use Rattle.cpl_diffusion.proofs.Sums.{sum_to}
 use Rattle.cpl_laws.proofs.Sums.{total_range, cells_same}
 use Rattle.cpl_slow.specs.Land.{gain_at}
-use Rattle.cpl_slow.specs.Steps.{HasArrived}
-use Rattle.cpl_slow.specs.Sums.{AreGains, HasRunOff, gain_sums}
+use Rattle.cpl_slow.specs.Sums.{AreGains, gain_sums}
 
 -- the sum over cells, one more
 pub cells_more : (f : ℕ → ℤ) (n : ℕ) → total_of (for_each (n + 1) f) ≡ total_of (for_each n f) +ℤ f n

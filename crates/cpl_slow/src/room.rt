@@ -8,6 +8,7 @@ ghost use Rattle.cpl_slow.specs.Sums.{AreGains, gain_sums};
 use crate::drains::{Drains, NO_GAIN, drains_of};
 use crate::ice::IceLists;
 use crate::land::LandLists;
+use crate::take::FlightLists;
 use crate::tally::{SlowTally, gain_sums};
 use cpl_fixed::Gain;
 use cpl_xgrid::Grid;
@@ -22,6 +23,7 @@ pub struct SlowRoom {
     pub(crate) arrived: Vec<Gain>,
     pub(crate) land: LandLists,
     pub(crate) ice: IceLists,
+    pub(crate) flights: FlightLists,
     pub(crate) spare: Vec<i64>,
 }
 
@@ -40,6 +42,7 @@ impl SlowRoom {
             arrived: vec![in alloc; NO_GAIN; oceans]?,
             land: LandLists::new(alloc),
             ice: IceLists::new(alloc),
+            flights: FlightLists::new(alloc),
             spare: Vec::new(alloc),
         })
     }

@@ -18,11 +18,11 @@ use Rattle.cpl_laws.proofs.Groups.{total_zeros}
 use Rattle.cpl_fast.specs.declared.fast.FastTally.{FastTally}
 use Rattle.cpl_slow.specs.Sums.{gain_sums}
 use Rattle.cpl_course.specs.Course.{KeepsCoupling, in_flight}
+use Rattle.cpl_plan.specs.declared.stocks.Holdings.{Holdings}
 use Rattle.cpl_plan.specs.declared.stocks.Stocks.{Stocks}
-use Rattle.cpl_plan.specs.Sums.{AreSmall, AreStocks}
+use Rattle.cpl_plan.specs.Sums.{AreHoldings, AreStocks, held_of}
 use Rattle.cpl_couple.specs.Tallies.{all_fast_sums}
-use Rattle.cpl_whole.specs.declared.holdings.Holdings.{Holdings}
-use Rattle.cpl_whole.specs.Holdings.{FitRow, FitRows, Hold, IsWide, held_of, holding_of}
+use Rattle.cpl_whole.specs.Holdings.{FitRow, FitRows, Hold, IsWide, holding_of}
 use Rattle.cpl_whole.specs.Exchanges.{crossed, flying_in}
 use Rattle.cpl_whole.proofs.Words.{amount_wide, sum_is}
 
@@ -30,18 +30,17 @@ use Rattle.cpl_whole.proofs.Words.{amount_wide, sum_is}
 pub stocks_are : (of : StocksOf) (stocks : Stocks) → AreStocks of stocks → held_of stocks ≡ of
 stocks_are of stocks are = λ i. record { air = are.air i; land = are.land i; ice = are.ice i; ocean = are.ocean i; to_ice = are.to_ice i; to_ocean = are.to_ocean i }
 
-pub hold : (grid : Grid) (whole : Whole) (holdings : Holdings) → AreStocks (stocks_of grid whole Heat) holdings.heat → AreStocks (stocks_of grid whole Water) holdings.water → AreStocks (stocks_of grid whole Salt) holdings.salt
-    → AreSmall holdings.heat → AreSmall holdings.water → AreSmall holdings.salt → Hold grid whole holdings
-hold grid whole holdings heat water salt small_heat small_water small_salt = record {
+pub hold : (grid : Grid) (whole : Whole) (holdings : Holdings) → AreHoldings grid whole holdings → Hold grid whole holdings
+hold grid whole holdings are = record {
   each = held_each;
-  heat = small_heat;
-  water = small_water;
-  salt = small_salt;
+  heat = are.small_heat;
+  water = are.small_water;
+  salt = are.small_salt;
 } where
   held_each : (quantity : Quantity) → holding_of holdings quantity ≡ stocks_of grid whole quantity
-  held_each Heat = stocks_are (stocks_of grid whole Heat) holdings.heat heat
-  held_each Water = stocks_are (stocks_of grid whole Water) holdings.water water
-  held_each Salt = stocks_are (stocks_of grid whole Salt) holdings.salt salt
+  held_each Heat = stocks_are (stocks_of grid whole Heat) holdings.heat are.heat
+  held_each Water = stocks_are (stocks_of grid whole Water) holdings.water are.water
+  held_each Salt = stocks_are (stocks_of grid whole Salt) holdings.salt are.salt
 
 module _ (grid : Grid) (whole : Whole) (holdings : Holdings) (are : Hold grid whole holdings) where
   pub fit_rows : ((quantity : Quantity) → held grid whole quantity ≤ℤ pos MOST_TOTAL) → FitRows holdings

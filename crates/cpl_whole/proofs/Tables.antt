@@ -19,9 +19,9 @@ use Rattle.cpl_restart.specs.Stocks.{stocks_of}
 use Rattle.cpl_restart.specs.CouplingStep.{state_after, step_after, step_entered, step_left, step_took}
 use Rattle.cpl_laws.proofs.Groups.{all_range}
 use Rattle.cpl_course.specs.Course.{IsOnCourse, KeepsCoupling, in_flight, over_steps}
+use Rattle.cpl_plan.specs.declared.stocks.Holdings.{Holdings}
 use Rattle.cpl_stocks.specs.declared.rows.Exchange.{Exchange}
 use Rattle.cpl_whole.specs.declared.exchanges.Crossing.{Crossing}
-use Rattle.cpl_whole.specs.declared.holdings.Holdings.{Holdings}
 use Rattle.cpl_whole.specs.Exchanges.{Crossed, row_in}
 use Rattle.cpl_whole.specs.Holdings.{Hold, holding_of}
 use Rattle.cpl_whole.specs.Rows.{Balances, Keeps, date_of, exchange_place, exchange_row, exchange_row_of, exchange_rows, exchanges, quantities, quantity_place, stock_row, stock_row_of, stock_rows}

@@ -9,7 +9,7 @@ use Rattle.cpl_restart.specs.CouplingStep.{step_after, step_gave, step_took}
 use Rattle.cpl_course.specs.Course.{in_flight}
 use Rattle.cpl_stocks.specs.declared.rows.Exchange.{Exchange}
 use Rattle.cpl_stocks.specs.declared.rows.ExchangeRow.{ExchangeRow}
-use Rattle.cpl_whole.specs.declared.holdings.Holdings.{Holdings}
+use Rattle.cpl_plan.specs.declared.stocks.Holdings.{Holdings}
 use Rattle.cpl_whole.specs.declared.exchanges.Crossing.{Crossing}
 use Rattle.cpl_whole.specs.Rows.{exchange_row_of, quantity_place}
 

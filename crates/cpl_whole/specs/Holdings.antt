@@ -8,15 +8,12 @@ use Rattle.cpl_fixed.specs.declared.words.Quantity.TheVariants.{Heat, Water, Sal
 use Rattle.cpl_xgrid.specs.declared.grid.Grid.{Grid}
 use Rattle.cpl_restart.specs.declared.whole.Whole.{Whole}
 use Rattle.cpl_restart.specs.Stocks.{Stocks as StocksOf, stocks_of, sum_of_stocks}
+use Rattle.cpl_plan.specs.declared.stocks.Holdings.{Holdings}
 use Rattle.cpl_plan.specs.declared.stocks.Stocks.{Stocks}
-use Rattle.cpl_plan.specs.Sums.{AreSmall}
-use Rattle.cpl_whole.specs.declared.holdings.Holdings.{Holdings}
+use Rattle.cpl_plan.specs.Sums.{AreSmall, held_of}
 use Rattle.cpl_whole.specs.declared.holdings.Stage.{Stage}
 
--- sums of this machine, as stocks
-abbrev pub held_of : Stocks → StocksOf
-held_of stocks = record { air = stocks.air; land = stocks.land; ice = stocks.ice; ocean = stocks.ocean; to_ice = stocks.to_ice; to_ocean = stocks.to_ocean }
-
+-- the stocks of a quantity
 abbrev pub holding_of : Holdings → Quantity → StocksOf
 holding_of holdings Heat = held_of holdings.heat
 holding_of holdings Water = held_of holdings.water

@@ -5,9 +5,10 @@ ghost use Rattle.cpl_whole.specs.Exchanges.{flying_in, row_in};
 ghost use Rattle.cpl_whole.specs.Holdings.{FitRows};
 ghost use Rattle.cpl_whole.specs.Rows.{exchange_place, exchanges, quantities};
 
-use crate::holdings::{Holdings, narrow};
+use crate::holdings::narrow;
 use crate::tally::StepTally;
 use cpl_fixed::Quantity;
+use cpl_plan::Holdings;
 use cpl_stocks::{Exchange, ExchangeRow};
 use std::alloc::AllocError;
 

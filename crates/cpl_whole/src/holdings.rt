@@ -1,27 +1,16 @@
-// What a state holds of all three quantities, and the rows of the stocks table.
+// The rows of the stocks table.
 ghost use Rattle.std.specs.Prelude.{◌≡◌, ◌++◌, ◌+ℤ◌, map, OnOk};
 ghost use Rattle.cpl_fixed.specs.Amounts.{IsAmount};
 ghost use Rattle.cpl_restart.specs.Stocks.{sum_of_stocks};
-ghost use Rattle.cpl_xgrid.specs.Grids.{IsGrid};
-ghost use Rattle.cpl_restart.specs.States.{IsWhole};
-ghost use Rattle.cpl_whole.specs.Holdings.{FitRow, FitRows, Hold, IsStage, IsWide, held_of, holding_of};
+ghost use Rattle.cpl_plan.specs.Sums.{held_of};
+ghost use Rattle.cpl_whole.specs.Holdings.{FitRow, FitRows, IsStage, IsWide, holding_of};
 ghost use Rattle.cpl_whole.specs.Rows.{of_heat, quantities, stock_row_of};
 
 use cpl_fixed::Quantity;
 use cpl_namelist::Civil;
-use cpl_plan::{Stocks, stocks_of};
-use cpl_restart::Whole;
+use cpl_plan::{Holdings, Stocks};
 use cpl_stocks::StockRow;
-use cpl_xgrid::Grid;
 use std::alloc::AllocError;
-
-// The stocks of heat, of water and of salt.
-#[derive(Clone, Copy)]
-pub(crate) struct Holdings {
-    pub(crate) heat: Stocks,
-    pub(crate) water: Stocks,
-    pub(crate) salt: Stocks,
-}
 
 // Where a run has come to: how many coupling steps it has done, the date and the elapsed seconds after them, and the heat that
 // entered and left in them.
@@ -32,19 +21,6 @@ pub(crate) struct Stage {
     pub(crate) seconds: i64,
     pub(crate) entered: i64,
     pub(crate) left: i64,
-}
-
-// What a state holds.
-pub(crate) fn holdings_of(grid: &Grid, whole: &Whole) -> Holdings
-    requires grid { IsGrid grid.now }
-    requires whole { IsWhole grid.now whole.now }
-    ensures { Hold grid.now whole.now result }
-{
-    Holdings {
-        heat: stocks_of(grid, whole, Quantity::Heat),
-        water: stocks_of(grid, whole, Quantity::Water),
-        salt: stocks_of(grid, whole, Quantity::Salt),
-    }
 }
 
 // Heat alone enters and leaves.

@@ -10,12 +10,13 @@ ghost use Rattle.cpl_whole.specs.Rows.{date_of, quantities, stock_row_of};
 
 use crate::copy::copy_whole;
 use crate::exchanges::Crossing;
-use crate::holdings::{Holdings, Stage, holdings_of, push_stocks};
+use crate::holdings::{Stage, push_stocks};
 use crate::run::Outcome;
 use crate::tally::step_tally;
 use cpl_couple::{StepRoom, couple};
 use cpl_fixed::List;
 use cpl_namelist::Names;
+use cpl_plan::{Holdings, holdings_of};
 use cpl_restart::Whole;
 use cpl_stocks::{ExchangeRow, StockRow};
 use cpl_xgrid::Grid;

@@ -4,11 +4,10 @@ ghost use Rattle.cpl_course.specs.Course.{KeepsCoupling};
 ghost use Rattle.cpl_restart.specs.CouplingStep.{state_after, step_after, step_entered, step_gave, step_left, step_took};
 ghost use Rattle.cpl_couple.specs.Rooms.{CanCoupleOn};
 
-use crate::holdings::holdings_of;
 use crate::tally::{StepTally, step_tally};
 use cpl_couple::{StepRoom, couple, ground_of};
 use cpl_namelist::Names;
-use cpl_plan::Plan;
+use cpl_plan::{Plan, holdings_of};
 use cpl_restart::Whole;
 use cpl_xgrid::Grid;
 use std::alloc::{AllocError, Global};

@@ -2,8 +2,8 @@
 ghost use Rattle.std.specs.Prelude.{◌≡◌};
 ghost use Rattle.cpl_whole.specs.Exchanges.{crossed};
 
-use crate::holdings::Holdings;
 use cpl_couple::SurfaceTally;
+use cpl_plan::Holdings;
 
 /// What a coupling step moved. `entered` is the sun that was absorbed and `left` the heat to space. `gave` is what the givers' cells
 /// gave and `took` what the takers' cells took: heat, water and salt from the air to the land, from the air to the ice, from the land

@@ -1,7 +1,7 @@
 use Rattle.std.proofs.Common.{◌∙◌, sym, ap, subst}
 use Rattle.cpl_fast.specs.declared.fast.FastTally.{FastTally}
 use Rattle.cpl_restart.specs.States.{IsWhole}
-use Rattle.cpl_whole.proofs.Holds.{entered_is, left_is, gave_is, took_is}
+use Rattle.cpl_whole.proofs.Holds.{entered_is, left_is, gave_is, hold, took_is}
 use Rattle.cpl_whole.proofs.step.step_on.Goals as goal
 
 pub new-requires : goal.new-requires
@@ -37,11 +37,11 @@ returns-clause-left c = c.step_tally.ensures.left ∙ left_is c.args.grid.now c.
 pub returns-clause-gave : goal.returns-clause-gave
 returns-clause-gave c =
     c.step_tally.ensures.gave
-    ∙ gave_is c.args.grid.now c.args.names.now c.args.whole.now c.couple-moved.ensures.keeps c.couple-moved.new.whole c.holdings_of-after.result c.holdings_of-after.ensures c.couple-moved.ensures.value
+    ∙ gave_is c.args.grid.now c.args.names.now c.args.whole.now c.couple-moved.ensures.keeps c.couple-moved.new.whole c.holdings_of-after.result (hold c.args.grid.now c.couple-moved.new.whole c.holdings_of-after.result c.holdings_of-after.ensures) c.couple-moved.ensures.value
     c.couple-moved.result.fast.gave c.couple-moved.result.slow.gave (ap (λ (t : FastTally). t.gave) c.couple-moved.ensures.moved) c.couple-moved.ensures.gave
 
 pub returns-clause-took : goal.returns-clause-took
 returns-clause-took c =
     c.step_tally.ensures.took
-    ∙ took_is c.args.grid.now c.args.whole.now c.holdings_of-before.result c.holdings_of-before.ensures c.args.names.now
+    ∙ took_is c.args.grid.now c.args.whole.now c.holdings_of-before.result (hold c.args.grid.now c.args.whole.now c.holdings_of-before.result c.holdings_of-before.ensures) c.args.names.now
     c.couple-moved.result.fast.took c.couple-moved.result.slow.took (ap (λ (t : FastTally). t.took) c.couple-moved.ensures.moved) c.couple-moved.ensures.took
