@@ -5,6 +5,9 @@
 #
 # Where the program isn't built yet for these sources, all of it is proved and built first. What that says goes to
 # standard error. The exit status is the program's, and 125 where there is no program to run.
+#
+# The program's large lists get large pages where the system gives them to those that ask: GLIBC_TUNABLES asks the C
+# library of Linux for that, and changes no result. What is said there of glibc.malloc.hugetlb already stays.
 set -u
 
 top=$(dirname "$(readlink -f "${BASH_SOURCE[0]}")")
@@ -43,4 +46,8 @@ if ! command -v rt >/dev/null; then
 fi
 mkdir -p "$out" || exit 125
 (flock 9 && build_where_needed) 9>"$out/lock" || exit 125
+case ${GLIBC_TUNABLES-} in
+*glibc.malloc.hugetlb=*) ;;
+*) export GLIBC_TUNABLES="${GLIBC_TUNABLES:+$GLIBC_TUNABLES:}glibc.malloc.hugetlb=1" ;;
+esac
 exec "$program" "$@"
