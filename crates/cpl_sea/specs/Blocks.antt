@@ -1,12 +1,13 @@
 -- A step over the layers, block of cells by block of cells.
-use Rattle.std.specs.Prelude.{◌≡◌, ℕ, ◌+◌, ◌*◌, ◌<◌, ◌≤◌, List, length, ℤ}
+use Rattle.std.specs.Prelude.{◌≡◌, ℕ, ◌+◌, ◌*◌, ◌<◌, ◌≤◌, List, length, ℤ, slice_index_or}
 use Rattle.cpl_fixed.specs.Amounts.{at}
 use Rattle.cpl_ice.specs.declared.parts.Salty.{Salty}
 use Rattle.cpl_transport.specs.Cells.{mixed_cell}
 use Rattle.cpl_transport.specs.Salts.{AreSmall, without}
 use Rattle.cpl_sea.specs.declared.links.Link.{Link}
 use Rattle.cpl_sea.specs.declared.links.CellFaces.{CellFaces}
-use Rattle.cpl_sea.specs.Passes.{cell_faces_at, layer_flows, link_at, number_after, out_of, salty_at, top_at}
+use Rattle.cpl_sea.specs.declared.blocks.TheConstants.{BLOCK}
+use Rattle.cpl_sea.specs.Passes.{AreSidesWithin, cell_faces_at, layer_flows, link_at, number_after, out_of, salty_at, top_at}
 
 -- The faces from one number up to another have moved in each layer: they have the number after the step, and what moves through
 -- them is known. The faces before them stand, and those behind them have the number they had.
@@ -29,3 +30,11 @@ left_in slope heights links cell_faces cells faces layer n =
 abbrev pub AreMixed : (mix layers count : ℕ) → (left : (layer n : ℕ) → Salty) → (first : ℕ) → (water heat salt : List ℤ) → Type 0
 AreMixed mix layers count left first water heat salt = (layer n : ℕ) → layer < layers → n < first
     → ◌≡◌ {A = Salty} (top_at water heat salt (layer * count + n)) (mixed_cell mix layers (λ l. left l n) layer)
+
+-- For each block of cells, how many faces have to move before what its cells see is known: never fewer than for the blocks before
+-- it, and no more than there are.
+pub record AreReady (faces : ℕ) (cell_faces : List CellFaces) (ready : List ℕ) : Type 0 where
+  pub blocks : length cell_faces ≤ length ready * BLOCK
+  pub sides : (b k : ℕ) → k < BLOCK → b * BLOCK + k < length cell_faces → AreSidesWithin (slice_index_or ready b 0) (cell_faces_at cell_faces (b * BLOCK + k))
+  pub order : (b c : ℕ) → b < c → c < length ready → slice_index_or ready b 0 ≤ slice_index_or ready c 0
+  pub most : (b : ℕ) → b < length ready → slice_index_or ready b 0 ≤ faces

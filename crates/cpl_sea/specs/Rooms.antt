@@ -6,6 +6,7 @@ use Rattle.cpl_mosaic.specs.declared.mosaic.Mesh.{Mesh}
 use Rattle.cpl_restart.specs.Diffusion.{cell_count}
 use Rattle.cpl_restart.specs.declared.whole.Whole.{Whole}
 use Rattle.cpl_restart.specs.Transport.{Sea, face_count}
+use Rattle.cpl_sea.specs.Blocks.{AreReady}
 use Rattle.cpl_sea.specs.Links.{all_cell_faces, links_of}
 use Rattle.cpl_sea.specs.Seas.{IsOcean}
 use Rattle.cpl_sea.specs.declared.blocks.TheConstants.{BLOCK}
@@ -22,6 +23,7 @@ pub record IsSeaRoom (mesh : Mesh) (layers : ℕ) (room : SeaRoom) : Type 0 wher
   pub some : IsFrom 1 MOST_LAYERS layers
   pub links : room.links.items ≡ links_of mesh
   pub cell_faces : room.cell_faces.items ≡ all_cell_faces mesh
+  pub ready : AreReady (face_count mesh) room.cell_faces.items room.ready.items
   pub heights : length room.heights.items ≡ cell_count mesh
   pub flows : length room.flows.items ≡ layers * face_count mesh
   pub cells : length room.cells.items ≡ layers * cell_count mesh
@@ -35,6 +37,7 @@ with_sea whole sea = record whole { water = sea.water; heat = sea.heat; salt = s
 pub record HasSameRoom (old new : SeaRoom) : Type 0 where
   pub links : new.links ≡ old.links
   pub cell_faces : new.cell_faces ≡ old.cell_faces
+  pub ready : new.ready ≡ old.ready
   pub heights : new.heights ≡ old.heights
   pub flows : new.flows ≡ old.flows
   pub cells : new.cells ≡ old.cells

@@ -1,17 +1,18 @@
 // A step over all lists, block of cells by block of cells, so that memory is gone through once.
-ghost use Rattle.std.specs.Prelude.{◌≡◌, ◌+◌, ◌*◌, ◌<◌, ◌≤◌, ℕ, length, All};
+ghost use Rattle.std.specs.Prelude.{◌≡◌, ◌+◌, ◌*◌, ◌<◌, ◌≤◌, ◌^◌, ℕ, length, All, IfOk};
 ghost use Rattle.cpl_fixed.specs.Amounts.{at};
 ghost use Rattle.cpl_ice.specs.declared.parts.Salty.{Salty};
 ghost use Rattle.cpl_transport.specs.Cells.{mixed_cell};
 ghost use Rattle.cpl_transport.specs.Heights.{IsFaceNumber, IsHeight};
 ghost use Rattle.cpl_transport.specs.Salts.{AreSmall, IsSalty, without};
-ghost use Rattle.cpl_sea.specs.Blocks.{AreMixed, HaveMoved, left_in};
+ghost use Rattle.cpl_sea.specs.Blocks.{AreMixed, AreReady, HaveMoved, left_in};
 ghost use Rattle.cpl_sea.specs.Passes.{AreColumns, AreSidesWithin, IsLinkWithin, IsSideWithin, cell_faces_at, column_at, link_at, number_after, out_of, salty_at, top_at};
 
 use crate::columns::mix_layer;
 use crate::links::{CellFaces, Link, SideFace};
 use crate::moving::{leave_layer, move_layer};
 use cpl_ice::Salty;
+use std::alloc::{AllocError, Global};
 
 /// The most cells of a block.
 pub(crate) const BLOCK: usize = 256;
@@ -49,6 +50,25 @@ fn ready_faces(faces: &[CellFaces], done: usize) -> usize
         ready = ready.max(needed_by(faces[n]));
     }
     ready
+}
+
+// For each block of cells, how many faces have to move before what its cells see is known, at least as many as for the blocks
+// before it.
+pub(crate) fn blocks_ready(alloc: Global, cell_faces: &[CellFaces]) -> Result<Vec<u32>, AllocError>
+    requires { All (AreSidesWithin (2 ^ 24)) cell_faces.now }
+    ensures { (faces : ℕ) → All (AreSidesWithin faces) cell_faces.now → IfOk result (λ ready. AreReady faces cell_faces.now ready.items) }
+{
+    let count = cell_faces.len();
+    let mut ready = Vec::new(alloc);
+    let mut done = 0;
+    let mut from = 0;
+    while from < count {
+        let to = count.min(from + BLOCK);
+        done = ready_faces(&cell_faces[from..to], done);
+        ready.push(done as u32)?;
+        from = to;
+    }
+    Ok(ready)
 }
 
 // Moves the faces from one number up to another of all layers one step.
@@ -161,6 +181,7 @@ fn mix_block(
 pub(crate) fn pass_blocks(
     links: &[Link],
     cell_faces: &[CellFaces],
+    ready: &[u32],
     heights: &[i64],
     slope: u32,
     mix: u32,
@@ -179,6 +200,7 @@ pub(crate) fn pass_blocks(
     requires links { All (IsLinkWithin (length heights.now)) links.now }
     requires few { length links.now ≤ 4 * length heights.now }
     requires cell_faces { All (AreSidesWithin (length links.now)) cell_faces.now }
+    requires ready { AreReady (length links.now) cell_faces.now ready.now }
     requires cell_count { length cell_faces.now ≡ length heights.now }
     requires columns { AreColumns layers (length heights.now) (length cells.now) }
     requires cells { All IsSalty cells.now }
@@ -200,19 +222,21 @@ pub(crate) fn pass_blocks(
     let all = links.len();
     let mut done = 0;
     let mut from = 0;
+    let mut turn = 0;
     while from < count {
         let to = count.min(from + BLOCK);
         let block = &cell_faces[from..to];
         let width = block.len();
-        let ready = ready_faces(block, done);
+        let next = ready[turn] as usize;
         move_faces(
-            links, heights, slope, layers, cells, done, ready, faces, flows,
+            links, heights, slope, layers, cells, done, next, faces, flows,
         );
         let place = &mut rest[..layers * width];
-        leave_block(block, flows, ready, layers, cells, from, place, all, count);
+        leave_block(block, flows, next, layers, cells, from, place, all, count);
         mix_block(mix, layers, place, width, from, count, water, heat, salt);
-        done = ready;
+        done = next;
         from = to;
+        turn += 1;
     }
     move_faces(
         links, heights, slope, layers, cells, done, all, faces, flows,

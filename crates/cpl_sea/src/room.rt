@@ -7,7 +7,7 @@ ghost use Rattle.cpl_restart.specs.Transport.{stepped};
 ghost use Rattle.cpl_sea.specs.Rooms.{IsSeaRoom, sea_in};
 ghost use Rattle.cpl_sea.specs.Seas.{IsSea};
 
-use crate::blocks::{BLOCK, pass_blocks};
+use crate::blocks::{BLOCK, blocks_ready, pass_blocks};
 use crate::cell_faces::cell_faces;
 use crate::columns::{load, raise};
 use crate::links::{CellFaces, Link};
@@ -24,6 +24,9 @@ use std::alloc::{AllocError, Global};
 pub struct SeaRoom {
     pub(crate) links: Vec<Link>,
     pub(crate) cell_faces: Vec<CellFaces>,
+    // For each block of cells, how many faces have to move before what its cells see is known, at least as many as for the blocks
+    // before it.
+    pub(crate) ready: Vec<u32>,
     pub(crate) heights: Vec<i64>,
     // What moves through the faces of all layers.
     pub(crate) flows: Vec<Salty>,
@@ -48,11 +51,13 @@ impl SeaRoom {
         let mesh = &grid.ocean;
         let cells = mesh.mosaic.cells() as usize;
         let faces = faces(alloc, &mesh.mosaic)?;
+        let cell_faces = cell_faces(alloc, mesh, faces.as_slice())?;
         let layers = grid.column.layers as usize;
         let all = layers * cells;
         Ok(SeaRoom {
             links: links(alloc, mesh, faces.as_slice())?,
-            cell_faces: cell_faces(alloc, mesh, faces.as_slice())?,
+            ready: blocks_ready(alloc, cell_faces.as_slice())?,
+            cell_faces,
             heights: vec![in alloc; 0; cells]?,
             flows: vec![in alloc; NOTHING; layers * faces.len()]?,
             cells: vec![in alloc; NOTHING; all]?,
@@ -88,6 +93,7 @@ impl SeaRoom {
         pass_blocks(
             self.links.as_slice(),
             self.cell_faces.as_slice(),
+            self.ready.as_slice(),
             self.heights.as_slice(),
             rates.slope,
             rates.mix,
