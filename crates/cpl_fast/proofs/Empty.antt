@@ -1,5 +1,5 @@
 -- Nothing flows through elements and parts of the area 0.
-use Rattle.std.proofs.Common.{◌≡◌, ◌∙◌, refl, sym, ap, ℕ, zero, suc, ◌+◌, ◌*◌, ◌<◌, arith, List, length}
+use Rattle.std.proofs.Common.{◌≡◌, ◌∙◌, refl, sym, ap, ℕ, zero, suc, ◌<◌, arith, List, length}
 use Rattle.std.specs.Prelude.{ℤ, pos, ◌+ℤ◌, ◌-ℤ◌, All}
 use Rattle.std.proofs.lemmas.Int.{ints}
 use Rattle.cpl_fixed.specs.Amounts.{at}
@@ -88,7 +88,7 @@ are_clear s list wet is_dry tables are flows have m below k part empty =
     let h : k < element_count s.grid list = omega (arith, part, width) in
     let count = are.links.count in
     let l : m < length (rows_of s.grid.xgrid list) = omega (arith, below, count) in
-    let area = sym (are.areas.each m k l h) ∙ ap (λ (w : ℕ). at tables.areas.items (m * w + k)) (sym width) ∙ empty in
+    let area = sym (are.areas.each m k l h) ∙ ap (λ (rows : ℕ). at tables.areas.items (place_in rows m k)) (sym count) ∙ empty in
     ap (λ (r : ℕ). flow_at flows (place_in r m k)) count ∙ have.each m k l h
     ∙ no_flow_of s wet (record { list = list; row = m }) k area (is_dry (record { list = list; row = m }) k area)
 

@@ -2,8 +2,10 @@ pub mod Parts
 pub mod Nothing
 pub mod Small
 pub mod Placed
+pub mod Filling
 pub mod Places
 pub mod Linked
+pub mod Ends
 pub mod Found
 pub mod Machine
 pub mod Linking

@@ -1,109 +1,135 @@
 -- What a fast step sees of a state: the numbers of its cells and parts as they stand in lists.
-use Rattle.std.proofs.Common.{◌≡◌, ◌∙◌, sym, ap, subst, ℕ, zero, suc, ◌+◌, ◌*◌, ◌<◌, arith, List, length}
+use Rattle.std.proofs.Common.{◌≡◌, ◌∙◌, ap, sym, subst, ℕ, zero, suc, ◌+◌, ◌*◌, ◌<◌, arith, rules, mul_comm, List, [], length}
 use Rattle.std.specs.Prelude.{ℤ}
 use Rattle.cpl_fixed.specs.Amounts.{at}
 use Rattle.cpl_flux.specs.declared.parts.Kind.TheVariants as kind
-use Rattle.cpl_flux.specs.declared.parts.Part.{Part}
-use Rattle.cpl_flux.specs.Elements.{IsAirSide, IsPart}
+use Rattle.cpl_flux.specs.Elements.{IsAirSide}
+use Rattle.cpl_mosaic.specs.Contacts.{cells_of}
 use Rattle.cpl_mosaic.specs.Mates.{MatesAgree}
+use Rattle.cpl_xgrid.specs.declared.parts.Surface.{Surface}
 use Rattle.cpl_xgrid.specs.declared.parts.Surface.TheVariants.{Land, Ocean}
-use Rattle.cpl_restart.specs.States.{air_cells, air_side, categories, land_cells, ocean_cells, of_cell, part_count}
-use Rattle.cpl_restart.specs.Elements.{part_area}
+use Rattle.cpl_restart.specs.States.{air_cells, air_side, categories, of_cell}
+use Rattle.cpl_restart.specs.Elements.{element_count, part_area, tiles_of}
 use Rattle.cpl_restart.specs.FastStep.{Before, surface_part}
 use Rattle.cpl_restart.specs.FastLaws.{CanStep}
 use Rattle.cpl_laws.specs.Once.{IsNumbered}
 use Rattle.cpl_fast.specs.declared.flows.Sky.{Sky}
 use Rattle.cpl_fast.specs.declared.flows.Tables.{Tables}
-use Rattle.cpl_fast.specs.declared.flows.WarmPart.{WarmPart}
-use Rattle.cpl_fast.specs.Flows.{sky_at, warm_at}
-use Rattle.cpl_fast.specs.Tables.{AreLinks, StandsFor, land_by, ocean_by, part_by, side_of, sky_by, warm_part}
+use Rattle.cpl_fast.specs.declared.part_lists.PartLists.{PartLists}
+use Rattle.cpl_fast.specs.declared.room.FastRoom.{FastRoom}
+use Rattle.cpl_fast.specs.Flows.{sky_at}
+use Rattle.cpl_fast.specs.PartLists.{AreParts, area_of_part, part_by, part_in}
+use Rattle.cpl_fast.specs.Tables.{side_of, sky_by}
 use Rattle.cpl_fast.specs.Places.{place_in}
 use Rattle.cpl_fast.specs.Filled.{AreElementAreas, AreSkies, AreTables}
-use Rattle.cpl_fast.specs.Rooms.{ArePartAreas, HasTables}
-use Rattle.cpl_fast.proofs.InRange.{part_in_range, air_in_range}
+use Rattle.cpl_fast.specs.Rooms.{ArePartAreas, HasTables, IsDivided, IsFastRoom}
+use Rattle.cpl_fast.specs.Stages.{IsLawful, IsSeen}
+use Rattle.cpl_fast.proofs.InRange.{air_in_range}
 use Rattle.cpl_fast.proofs.Making.{skies_are}
 
-module _ (s : Before) (is : IsNumbered s.grid) (mates : MatesAgree s.grid.air.mosaic) (can : CanStep s) where
-  -- THE LAND
+-- THE PARTS OF A SURFACE
 
-  module _ (heat water area : List ℤ) (heat_is : heat ≡ s.mid.whole.land_heat) (water_is : water ≡ s.mid.whole.land_water) (are : ArePartAreas s.grid s.mid.whole Land area) where
-    pub land_part_is : (n : ℕ) → n < land_cells s.grid → land_by heat water area n ≡ surface_part s.grid s.mid Land n 0
-    land_part_is n l =
-        let place : n * 1 + 0 ≡ n = omega arith in
-        let own : at area n ≡ part_area s.grid s.mid.whole Land n 0 = ap (at area) (sym place) ∙ are.each n 0 l (omega arith) in
-        λ i. part_by kind.Land (at (heat_is i) n) (at (water_is i) n) (own i)
+module _ (s : Before) (list : Surface) (lists : PartLists) (are : ArePartAreas s.grid s.mid.whole list lists.area.now) (cells : length lists.heat.now ≡ cells_of (tiles_of s.grid list)) where
+  own_area : (n k : ℕ) → n < cells_of (tiles_of s.grid list) → k < element_count s.grid list → area_of_part lists n k ≡ part_area s.grid s.mid.whole list n k
+  own_area n k l h = ap (λ (count : ℕ). at lists.area.now (place_in count n k)) cells ∙ are.each n k l h
 
-    pub land_in_range : (n : ℕ) → n < land_cells s.grid → IsPart (land_by heat water area n)
-    land_in_range n l = subst IsPart (sym (land_part_is n l)) (part_in_range s is can.air mates can Land n 0 l (omega arith))
+  -- there are as many areas as parts
+  area_count : element_count s.grid list ≡ lists.categories + 1 → length lists.area.now ≡ length lists.heat.now * (lists.categories + 1)
+  area_count width = are.count ∙ (λ i. sym cells i * width i)
 
-    pub land_seen : (parts : List WarmPart) → ((n : ℕ) → n < land_cells s.grid → warm_at parts n ≡ warm_part s.rates (land_by heat water area n))
-        → (n k : ℕ) → n < land_cells s.grid → k < 1 → warm_at parts (place_in (land_cells s.grid) n k) ≡ warm_part s.rates (surface_part s.grid s.mid Land n k)
-    land_seen parts value n k l h =
-        let none : k ≡ 0 = omega (arith, h) in
-        let first = ap (λ (j : ℕ). j * land_cells s.grid) none in
-        let place : place_in (land_cells s.grid) n k ≡ n = omega (arith, first) in
-        ap (warm_at parts) place ∙ value n l ∙ ap (warm_part s.rates) (land_part_is n l)
+-- those of the land, in lists of its cells and none of ice
+module _ (s : Before) (can : CanStep s) (lists : PartLists) (first_is : lists.first ≡ kind.Land) (none : lists.categories ≡ 0)
+    (heat_is : lists.heat.now ≡ s.mid.whole.land_heat) (water_is : lists.water.now ≡ s.mid.whole.land_water) (are : ArePartAreas s.grid s.mid.whole Land lists.area.now) where
+  land_count : length lists.heat.now ≡ cells_of (tiles_of s.grid Land)
+  land_count = ap length heat_is ∙ can.mid.whole.lengths.land_heat
 
-    -- tables in which they were written
-    pub land_tables : (tables : Tables) → HasTables s.grid Land tables → AreElementAreas s.grid s.mid.whole Land tables.areas.items → (new : List WarmPart) (written : Tables)
-        → written.width ≡ tables.width → written.cells ≡ tables.cells → written.links.items ≡ tables.links.items → written.areas.items ≡ tables.areas.items → written.parts.items ≡ new
-        → length new ≡ length tables.parts.items → ((n : ℕ) → n < length tables.parts.items → warm_at new n ≡ warm_part s.rates (land_by heat water area n)) → AreTables s Land written
-    land_tables tables has areas new written width cells links same parts count value = record {
-      width = width ∙ has.width;
-      cells = cells ∙ has.cells;
-      links = subst (AreLinks s.grid Land) (sym links) has.links;
-      areas = subst (AreElementAreas s.grid s.mid.whole Land) (sym same) areas;
-      count = ap length parts ∙ count ∙ has.parts;
-      parts = λ n k l h some. ap (λ (xs : List WarmPart). warm_at xs (place_in (land_cells s.grid) n k)) parts ∙ land_seen new (λ n l. value n (let e = has.parts in omega (arith, e, l))) n k l h;
-    }
+  land_part_is : (n k : ℕ) → n < cells_of (tiles_of s.grid Land) → k < 1 → part_in lists n k ≡ surface_part s.grid s.mid Land n k
+  unfolding part_in
+  land_part_is n zero l h =
+      let own = own_area s Land lists are land_count n 0 l h in
+      λ i. part_by (first_is i) (at (heat_is i) n) (at (water_is i) n) (own i)
+  land_part_is n (suc k) l h = absurd (omega (arith, h))
 
-  -- THE OCEAN'S MOSAIC
+  pub land_parts_are : lists.ice_heat.now ≡ [] → lists.ice.now ≡ [] → AreParts s Land lists
+  land_parts_are ice_heat_is ice_is =
+      let width : 1 ≡ lists.categories + 1 = omega (arith, none) in
+      let product = ap (λ (k : ℕ). length lists.heat.now * k) none in
+      let no_ice : length lists.heat.now * lists.categories ≡ 0 = omega (arith, product) in
+      record {
+        cells = land_count;
+        categories = width;
+        counts = record {
+          water = ap length water_is ∙ can.mid.whole.lengths.land_water ∙ sym land_count;
+          ice_heat = ap length ice_heat_is ∙ sym no_ice;
+          ice = ap length ice_is ∙ sym no_ice;
+          area = area_count s Land lists are land_count width;
+        };
+        each = land_part_is;
+      }
 
-  module _ (heat water ice_heat ice area : List ℤ) (heat_is : heat ≡ s.mid.skin_heat) (water_is : water ≡ s.mid.skin_water)
-      (ice_heat_is : ice_heat ≡ s.mid.whole.ice_heat) (ice_is : ice ≡ s.mid.whole.ice) (are : ArePartAreas s.grid s.mid.whole Ocean area) where
-    pub ocean_part_is : (n k : ℕ) → n < ocean_cells s.grid → k < part_count s.grid → ocean_by heat water ice_heat ice area (categories s.grid) n k ≡ surface_part s.grid s.mid Ocean n k
-    unfolding ocean_by
-    ocean_part_is n zero l h =
-        let place : n * part_count s.grid + 0 ≡ n * part_count s.grid = omega arith in
-        let own : at area (n * part_count s.grid) ≡ part_area s.grid s.mid.whole Ocean n 0 = ap (at area) (sym place) ∙ are.each n 0 l h in
-        λ i. part_by kind.Water (at (heat_is i) n) (at (water_is i) n) (own i)
-    ocean_part_is n (suc k) l h =
-        let place : n * part_count s.grid + suc k ≡ n * part_count s.grid + 1 + k = omega arith in
-        let own : at area (n * part_count s.grid + 1 + k) ≡ part_area s.grid s.mid.whole Ocean n (suc k) = ap (at area) (sym place) ∙ are.each n (suc k) l h in
-        λ i. part_by kind.Ice (of_cell (categories s.grid) n k (ice_heat_is i)) (of_cell (categories s.grid) n k (ice_is i)) (own i)
+-- those of the ocean's mosaic
+module _ (s : Before) (can : CanStep s) (lists : PartLists) (first_is : lists.first ≡ kind.Water) (some : lists.categories ≡ categories s.grid)
+    (heat_is : lists.heat.now ≡ s.mid.skin_heat) (water_is : lists.water.now ≡ s.mid.skin_water)
+    (ice_heat_is : lists.ice_heat.now ≡ s.mid.whole.ice_heat) (ice_is : lists.ice.now ≡ s.mid.whole.ice) (are : ArePartAreas s.grid s.mid.whole Ocean lists.area.now) where
+  ocean_count : length lists.heat.now ≡ cells_of (tiles_of s.grid Ocean)
+  ocean_count = ap length heat_is ∙ can.mid.skin_heat.count
 
-    pub ocean_in_range : (n k : ℕ) → n < ocean_cells s.grid → k < part_count s.grid → IsPart (ocean_by heat water ice_heat ice area (categories s.grid) n k)
-    ocean_in_range n k l h = subst IsPart (sym (ocean_part_is n k l h)) (part_in_range s is can.air mates can Ocean n k l h)
+  ocean_part_is : (n k : ℕ) → n < cells_of (tiles_of s.grid Ocean) → k < element_count s.grid Ocean → part_in lists n k ≡ surface_part s.grid s.mid Ocean n k
+  unfolding part_in
+  ocean_part_is n zero l h =
+      let own = own_area s Ocean lists are ocean_count n 0 l h in
+      λ i. part_by (first_is i) (at (heat_is i) n) (at (water_is i) n) (own i)
+  ocean_part_is n (suc k) l h =
+      let own = own_area s Ocean lists are ocean_count n (suc k) l h in
+      λ i. part_by kind.Ice (of_cell (some i) n k (ice_heat_is i)) (of_cell (some i) n k (ice_is i)) (own i)
 
-    pub ocean_seen : (parts : List WarmPart)
-        → ((n k : ℕ) → n < ocean_cells s.grid → k < part_count s.grid → StandsFor s.rates (ocean_by heat water ice_heat ice area (categories s.grid) n k) (warm_at parts (place_in (ocean_cells s.grid) n k)))
-        → (n k : ℕ) → n < ocean_cells s.grid → k < part_count s.grid → StandsFor s.rates (surface_part s.grid s.mid Ocean n k) (warm_at parts (place_in (ocean_cells s.grid) n k))
-    ocean_seen parts value n k l h = subst (λ (part : Part). StandsFor s.rates part (warm_at parts (place_in (ocean_cells s.grid) n k))) (ocean_part_is n k l h) (value n k l h)
+  -- there are as many numbers of ice as categories of all cells
+  ice_count : (numbers : List ℤ) → length numbers ≡ categories s.grid * cells_of (tiles_of s.grid Ocean) → length numbers ≡ length lists.heat.now * lists.categories
+  ice_count numbers count = count ∙ mul_comm (categories s.grid) (cells_of (tiles_of s.grid Ocean)) ∙ (λ i. sym ocean_count i * sym some i)
 
-    pub ocean_tables : (tables : Tables) → HasTables s.grid Ocean tables → AreElementAreas s.grid s.mid.whole Ocean tables.areas.items → (new : List WarmPart) (written : Tables)
-        → written.width ≡ tables.width → written.cells ≡ tables.cells → written.links.items ≡ tables.links.items → written.areas.items ≡ tables.areas.items → written.parts.items ≡ new
-        → length new ≡ length tables.parts.items
-        → ((n k : ℕ) → n < length heat → k < part_count s.grid → StandsFor s.rates (ocean_by heat water ice_heat ice area (categories s.grid) n k) (warm_at new (place_in (length heat) n k)))
-        → AreTables s Ocean written
-    ocean_tables tables has areas new written width cells links same parts count value = record {
-      width = width ∙ has.width;
-      cells = cells ∙ has.cells;
-      links = subst (AreLinks s.grid Ocean) (sym links) has.links;
-      areas = subst (AreElementAreas s.grid s.mid.whole Ocean) (sym same) areas;
-      count = ap length parts ∙ count ∙ has.parts;
-      parts = λ n k l h some. ap (λ (xs : List WarmPart). warm_at xs (place_in (ocean_cells s.grid) n k)) parts
-          ∙ ocean_seen new (λ n k l h. (
-          let long = ap length heat_is ∙ can.mid.skin_heat.count in
-          subst (λ (cells : ℕ). StandsFor s.rates (ocean_by heat water ice_heat ice area (categories s.grid) n k) (warm_at new (place_in cells n k))) long (value n k (omega (arith, long, l)) h))) n k l h some;
-    }
+  pub ocean_parts_are : AreParts s Ocean lists
+  ocean_parts_are =
+      let width : element_count s.grid Ocean ≡ lists.categories + 1 = omega (arith, some) in
+      record {
+        cells = ocean_count;
+        categories = width;
+        counts = record {
+          water = ap length water_is ∙ can.mid.skin_water.count ∙ sym ocean_count;
+          ice_heat = ap length ice_heat_is ∙ ice_count s.mid.whole.ice_heat can.mid.whole.lengths.ice_heat;
+          ice = ap length ice_is ∙ ice_count s.mid.whole.ice can.mid.whole.lengths.ice;
+          area = area_count s Ocean lists are ocean_count width;
+        };
+        each = ocean_part_is;
+      }
 
-  -- THE AIR
+-- THE AIR
 
-  module _ (heat vapour area : List ℤ) (heat_is : heat ≡ s.mid.whole.air_heat) (vapour_is : vapour ≡ s.mid.whole.air_vapour) (area_is : area ≡ s.grid.air.area) where
-    pub side_in_range : (n : ℕ) → n < air_cells s.grid → IsAirSide (side_of heat vapour area n)
-    side_in_range n l =
-        let same : side_of heat vapour area n ≡ air_side s.grid s.mid.whole n = (λ i. side_of (heat_is i) (vapour_is i) (area_is i) n) in
-        subst IsAirSide (sym same) (air_in_range s is can.air mates can n l)
+module _ (s : Before) (is : IsNumbered s.grid) (mates : MatesAgree s.grid.air.mosaic) (can : CanStep s) (heat vapour area : List ℤ)
+    (heat_is : heat ≡ s.mid.whole.air_heat) (vapour_is : vapour ≡ s.mid.whole.air_vapour) (area_is : area ≡ s.grid.air.area) where
+  pub side_in_range : (n : ℕ) → n < air_cells s.grid → IsAirSide (side_of heat vapour area n)
+  side_in_range n l =
+      let same : side_of heat vapour area n ≡ air_side s.grid s.mid.whole n = (λ i. side_of (heat_is i) (vapour_is i) (area_is i) n) in
+      subst IsAirSide (sym same) (air_in_range s is can.air mates can n l)
 
-    pub skies_seen : (skies : List Sky) → length skies ≡ air_cells s.grid → ((n : ℕ) → n < air_cells s.grid → sky_at skies n ≡ sky_by s.rates heat vapour area n) → AreSkies s skies
-    skies_seen skies count value = skies_are s skies count (λ n l. value n l ∙ (λ i. sky_by s.rates (heat_is i) (vapour_is i) (area_is i) n))
+  pub skies_seen : (skies : List Sky) → length skies ≡ air_cells s.grid → ((n : ℕ) → n < air_cells s.grid → sky_at skies n ≡ sky_by s.rates heat vapour area n) → AreSkies s skies
+  skies_seen skies count value = skies_are s skies count (λ n l. value n l ∙ (λ i. sky_by s.rates (heat_is i) (vapour_is i) (area_is i) n))
+
+-- ROOM
+
+-- the tables of a list, where the areas of the state stand
+tables_are : (s : Before) (list : Surface) (tables : Tables) → HasTables s.grid list tables → AreElementAreas s.grid s.mid.whole list tables.areas.items → AreTables s list tables
+tables_are s list tables has areas = record { width = has.width; links = has.links; areas = areas; used = has.used }
+
+-- room of a state in which the skies were written
+pub room_seen : (s : Before) (old new : FastRoom) → IsLawful s → IsDivided s old → AreSkies s new.skies.items → new ≡ record old { skies = new.skies } → IsSeen s new
+room_seen s old new lawful is skies rest =
+    let count = skies.count in
+    let fast : IsFastRoom s.grid (record old { skies = new.skies }) = search rules in
+    let now : IsSeen s (record old { skies = new.skies }) = record {
+      lawful = lawful;
+      room = record { room = fast; land = is.land; ocean = is.ocean; land_area = is.land_area; ocean_area = is.ocean_area; land_suns = is.land_suns; ocean_suns = is.ocean_suns };
+      land = tables_are s Land old.land is.room.land is.land;
+      ocean = tables_are s Ocean old.ocean is.room.ocean is.ocean;
+      skies = skies;
+    } in
+    subst (IsSeen s) (sym rest) now

@@ -1,5 +1,5 @@
--- Numbers as the machine reads them.
-use Rattle.std.proofs.Common.{◌≡◌, ◌∙◌, sym, ap, subst, ℕ, zero, suc, ◌+◌, ◌*◌, ◌<◌, ◌≤◌, arith, inl, inr, List, length, map, take, get_or, w64, to_z, of_z}
+-- Sums of the first numbers of lists, and of areas over exchange cells.
+use Rattle.std.proofs.Common.{◌≡◌, ◌∙◌, sym, ap, subst, ℕ, zero, suc, ◌+◌, ◌*◌, ◌<◌, ◌≤◌, arith, inl, inr, List, length, map, take, get_or}
 use Rattle.std.specs.Prelude.{ℤ, pos, ◌+ℤ◌, ◌≤ℤ◌, All}
 use Rattle.std.proofs.lemmas.Bool.{cases_eq}
 use Rattle.std.proofs.lemmas.List.{length-map, take-map, get_or-map}
@@ -8,16 +8,8 @@ use Rattle.cpl_xgrid.specs.declared.parts.XRef.{XRef}
 use Rattle.cpl_fixed.specs.Totals.{total_of}
 use Rattle.cpl_fixed.proofs.ShareLaws.{total_front, total_more}
 use Rattle.std.proofs.lemmas.Int.{ints}
-use Rattle.cpl_flux.specs.declared.parts.Part.{Part}
-use Rattle.cpl_flux.specs.Elements.{IsPart}
-
--- a part whose numbers were read
-pub part_read : (part : Part) → IsPart part → ◌≡◌ {A = Part} part (record { kind = part.kind; heat = to_z w64 (of_z w64 part.heat); mass = to_z w64 (of_z w64 part.mass); area = to_z w64 (of_z w64 part.area) })
-part_read part is =
-    let h : part.heat ≡ to_z w64 (of_z w64 part.heat) = omega (arith, ints, is.heat.0, is.heat.1) in
-    let m : part.mass ≡ to_z w64 (of_z w64 part.mass) = omega (arith, ints, is.mass.0, is.mass.1) in
-    let a : part.area ≡ to_z w64 (of_z w64 part.area) = omega (arith, ints, is.area.0, is.area.1) in
-    λ i. record { kind = part.kind; heat = h i; mass = m i; area = a i }
+use Rattle.cpl_fast.specs.Places.{place_in}
+use Rattle.cpl_fast.specs.Sums.{reaches}
 
 -- the first numbers sum to no more than more of them
 pub front_most : (xs : List ℤ) (a b : ℕ) → All (λ x. pos 0 ≤ℤ x) xs → a ≤ b → b ≤ length xs → total_of (take a xs) ≤ℤ total_of (take b xs)
@@ -35,21 +27,21 @@ front_most xs a (suc b) all l h = elim (cases_eq a (suc b)) [
       omega (arith, ints, before, own, more)
 ]
 
--- the sum of the areas of a part over one exchange cell more
-pub record IsNextPart (refs : List XRef) (areas : List ℤ) (width k n : ℕ) (own : ℤ) : Type 0 where
-  pub more : total_of (map (λ (ref : XRef). at areas (ref.row * width + k)) (take (n + 1) refs)) ≡ total_of (map (λ (ref : XRef). at areas (ref.row * width + k)) (take n refs)) +ℤ own
-  pub least : pos 0 ≤ℤ total_of (map (λ (ref : XRef). at areas (ref.row * width + k)) (take (n + 1) refs))
-  pub most : total_of (map (λ (ref : XRef). at areas (ref.row * width + k)) (take (n + 1) refs)) ≤ℤ total_of (map (λ (ref : XRef). at areas (ref.row * width + k)) refs)
+-- the sum of the areas of a part over one exchange cell more, where the list has so many rows
+pub record IsNextPart (refs : List XRef) (areas : List ℤ) (rows k n : ℕ) (own : ℤ) : Type 0 where
+  pub more : total_of (map (λ (ref : XRef). at areas (place_in rows ref.row k)) (take (n + 1) refs)) ≡ total_of (map (λ (ref : XRef). at areas (place_in rows ref.row k)) (take n refs)) +ℤ own
+  pub least : pos 0 ≤ℤ total_of (map (λ (ref : XRef). at areas (place_in rows ref.row k)) (take (n + 1) refs))
+  pub most : total_of (map (λ (ref : XRef). at areas (place_in rows ref.row k)) (take (n + 1) refs)) ≤ℤ total_of (map (λ (ref : XRef). at areas (place_in rows ref.row k)) refs)
 
-pub next_part : (refs : List XRef) (areas : List ℤ) (width k n : ℕ) (d : XRef) → k < width → All (λ (ref : XRef). ref.row * width + width ≤ length areas) refs → All (λ x. pos 0 ≤ℤ x) areas → n < length refs
-    → IsNextPart refs areas width k n (at areas ((get_or refs n d).row * width + k))
-next_part refs areas width k n d part rows least within =
-    let area = λ (ref : XRef). at areas (ref.row * width + k) in
+pub next_part : (refs : List XRef) (areas : List ℤ) (rows k n : ℕ) (d : XRef) → k * rows + rows ≤ length areas → All (reaches rows) refs → All (λ x. pos 0 ≤ℤ x) areas → n < length refs
+    → IsNextPart refs areas rows k n (at areas (place_in rows (get_or refs n d).row k))
+next_part refs areas rows k n d part reach least within =
+    let area = λ (ref : XRef). at areas (place_in rows ref.row k) in
     let long = length-map refs area in
     let natural : All (λ x. pos 0 ≤ℤ x) (map area refs) = λ j e h. (
     let below : j < length refs = omega (arith, long) in
-    let place = rows j d below in
-    subst (λ (x : ℤ). pos 0 ≤ℤ x) (sym (get_or-map area refs j d e below)) (least ((get_or refs j d).row * width + k) (pos 0) (omega (arith, place)))) in
+    let place = reach j d below in
+    subst (λ (x : ℤ). pos 0 ≤ℤ x) (sym (get_or-map area refs j d e below)) (least (place_in rows (get_or refs j d).row k) (pos 0) (omega (arith, place)))) in
     let now = ap total_of (take-map area (n + 1) refs) in
     let was = ap total_of (take-map area n refs) in
     let front = total_front (map area refs) (n + 1) natural in

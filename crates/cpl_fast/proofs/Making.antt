@@ -1,4 +1,4 @@
--- What the tables hold is what the definitions have: the areas of elements and of parts, and the parts of the surface.
+-- What the tables hold is what the definitions have: the areas of elements and of parts, and the skies.
 use Rattle.std.proofs.Common.{◌≡◌, ◌∙◌, sym, ap, subst, ℕ, ◌+◌, ◌-◌, ◌*◌, ◌<◌, ◌≤◌, arith, List, length, take, drop}
 use Rattle.std.specs.Prelude.{ℤ, pos, ◌≤ℤ◌, All, slice_range}
 use Rattle.std.proofs.lemmas.Int.{ints}
@@ -15,6 +15,7 @@ use Rattle.cpl_mosaic.specs.Contacts.{cells_of}
 use Rattle.cpl_xgrid.specs.declared.grid.Grid.{Grid}
 use Rattle.cpl_xgrid.specs.Lists.{XGridLists}
 use Rattle.cpl_xgrid.specs.declared.parts.XRef.{XRef}
+use Rattle.cpl_xgrid.specs.declared.parts.XRow.{XRow}
 use Rattle.cpl_xgrid.specs.declared.parts.Surface.{Surface}
 use Rattle.cpl_xgrid.specs.declared.parts.Surface.TheVariants.{Land, Ocean}
 use Rattle.cpl_xgrid.specs.Rows.{refs_of_other, rows_of}
@@ -31,16 +32,24 @@ use Rattle.cpl_laws.proofs.Areas.{parts_natural, part_most, wet}
 use Rattle.cpl_fast.specs.declared.flows.Link.{Link}
 use Rattle.cpl_fast.specs.declared.flows.Sky.{Sky}
 use Rattle.cpl_fast.specs.Flows.{link_at, sky_at}
+use Rattle.cpl_fast.specs.Places.{place_in}
+use Rattle.cpl_fast.specs.Sums.{reaches}
 use Rattle.cpl_fast.specs.Tables.{AreLinks, CanSumAreas, area_over, cells_on, parts_of, row_in, sky_by}
 use Rattle.cpl_fast.specs.Filled.{AreElementAreas, AreSkies}
+
+-- so many numbers of a list stand together
+pub block_long : (first width : ℕ) (xs : List ℤ) → first + width ≤ length xs → length (slice_range xs first (first + width)) ≡ width
+block_long first width xs within =
+    let long = length-drop first xs in
+    let size : first + width - first ≡ width = omega arith in
+    ap (λ (k : ℕ). length (take k (drop first xs))) size ∙ length-take-le width (drop first xs) (omega (arith, long))
 
 -- the numbers of a cell stand together in the list
 pub block_is : (width n : ℕ) (xs : List ℤ) → n * width + width ≤ length xs → slice_range xs (n * width) (n * width + width) ≡ all_of_cell width n xs
 block_is width n xs within =
-    let long = length-drop (n * width) xs in
     let size : n * width + width - n * width ≡ width = omega arith in
     let taken : slice_range xs (n * width) (n * width + width) ≡ take width (drop (n * width) xs) = ap (λ (k : ℕ). take k (drop (n * width) xs)) size in
-    let count = length-take-le width (drop (n * width) xs) (omega (arith, long)) in
+    let count = ap length (sym taken) ∙ block_long (n * width) width xs within in
     taken ∙ ext_get_or (pos 0) (take width (drop (n * width) xs)) (all_of_cell width n xs)
     (count ∙ sym (length-map-range_with_len (λ k. of_cell width n k xs) 0 width))
     (λ i l. (let below : i < width = omega (arith, count) in
@@ -52,6 +61,11 @@ block_is width n xs within =
 pub all_below : (m rows width : ℕ) → m < rows → m * width + width ≤ rows * width
 all_below m rows width l = let e = mul-le (m + 1) width rows width (omega arith) (omega arith) in omega (arith, e)
 
+-- what is read of an exchange grid can be summed as the grid's own can
+pub can_sum_read : (refs own_refs : List XRef) (rows own_rows : List XRow) (areas : List ℤ) (width : ℕ) → refs ≡ own_refs → rows ≡ own_rows → CanSumAreas own_refs areas (length own_rows) width → CanSumAreas refs areas (length rows) width
+can_sum_read refs own_refs rows own_rows areas width refs_are rows_are can =
+    subst (λ (r : List XRow). CanSumAreas refs areas (length r) width) (sym rows_are) (subst (λ (r : List XRef). CanSumAreas r areas (length own_rows) width) (sym refs_are) can)
+
 module _ (grid : Grid) (is : IsNumbered grid) (whole : Whole) (lawful : IsWhole grid whole) where
   -- AREAS OF ELEMENTS
 
@@ -62,7 +76,7 @@ module _ (grid : Grid) (is : IsNumbered grid) (whole : Whole) (lawful : IsWhole 
     count = omega (arith, count);
     each = λ m k l h. (
         let first : k ≡ 0 = omega (arith, h) in
-        let place : m * 1 + k ≡ m = omega (arith, first) in
+        let place : place_in (length grid.xgrid.land_rows) m k ≡ m = ap (place_in (length grid.xgrid.land_rows) m) first ∙ omega arith in
         ap (at areas) place ∙ value m l ∙ sym (ap (element_area grid whole (record { list = Land; row = m })) first));
   }
 
@@ -86,7 +100,7 @@ module _ (grid : Grid) (is : IsNumbered grid) (whole : Whole) (lawful : IsWhole 
     parts_whole m l = ap total_of (parts_are m l) ∙ lawful.parts (surface_number grid (ref_in Ocean m)) (wet grid is whole lawful m l)
 
     pub ocean_areas_are : (areas : List ℤ) → length areas ≡ length grid.xgrid.ocean_rows * part_count grid
-        → ((m k : ℕ) → m < length grid.xgrid.ocean_rows → k < part_count grid → at areas (m * part_count grid + k)
+        → ((m k : ℕ) → m < length grid.xgrid.ocean_rows → k < part_count grid → at areas (place_in (length grid.xgrid.ocean_rows) m k)
         ≡ share (row_in grid.xgrid.ocean_rows m).area (total_of (take k (parts_of links whole.parts (part_count grid) m))) (total_of (take (k + 1) (parts_of links whole.parts (part_count grid) m))) PARTS)
         → AreElementAreas grid whole Ocean areas
     unfolding areas_in
@@ -118,22 +132,24 @@ module _ (grid : Grid) (is : IsNumbered grid) (whole : Whole) (lawful : IsWhole 
   mesh_most Ocean n l = (is.rules.ocean.each n (pos 0) (let e = is.rules.ocean.count in omega arith)).1
 
   module _ (list : Surface) (areas : List ℤ) (are : AreElementAreas grid whole list areas) (n : ℕ) (below : n < cells_of (tiles_of grid list)) where
-    pub refs_within : All (λ (ref : XRef). ref.row * element_count grid list + element_count grid list ≤ length areas) (refs_of_surface_cell grid list n)
-    refs_within = each_of_surface grid is (λ ref. ref.row * element_count grid list + element_count grid list ≤ length areas) list n below (λ m l e.
-        (let most = all_below m (length (rows_of grid.xgrid list)) (element_count grid list) l in let count = are.count in omega (arith, most, count)))
+    refs_reach : All (reaches (length (rows_of grid.xgrid list))) (refs_of_surface_cell grid list n)
+    refs_reach = each_of_surface grid is (reaches (length (rows_of grid.xgrid list))) list n below (λ m l e. l)
 
-    pub part_area_is : (k : ℕ) → k < element_count grid list → area_over (refs_of_surface_cell grid list n) areas (element_count grid list) k ≡ part_area grid whole list n k
+    part_area_is : (k : ℕ) → k < element_count grid list → area_over (refs_of_surface_cell grid list n) areas (length (rows_of grid.xgrid list)) k ≡ part_area grid whole list n k
     unfolding area_over part_area
-    part_area_is k h = total_same (λ (ref : XRef). at areas (ref.row * element_count grid list + k)) (λ (ref : XRef). element_area grid whole ref k) (refs_of_surface_cell grid list n)
-        (each_of_surface grid is (λ ref. at areas (ref.row * element_count grid list + k) ≡ element_area grid whole ref k) list n below (λ m l e. are.each m k l h))
+    part_area_is k h =
+        let rows = length (rows_of grid.xgrid list) in
+        total_same (λ (ref : XRef). at areas (place_in rows ref.row k)) (λ (ref : XRef). element_area grid whole ref k) (refs_of_surface_cell grid list n)
+        (each_of_surface grid is (λ ref. at areas (place_in rows ref.row k) ≡ element_area grid whole ref k) list n below (λ m l e. are.each m k l h))
 
     -- as the exchange grid keeps them
-    pub cells_are : cells_on grid.xgrid list n ≡ refs_of_surface_cell grid list n
+    cells_are : cells_on grid.xgrid list n ≡ refs_of_surface_cell grid list n
     cells_are = cells_by list n
 
-    pub can_sum : CanSumAreas (cells_on grid.xgrid list n) areas (element_count grid list)
-    can_sum = subst (λ (refs : List XRef). CanSumAreas refs areas (element_count grid list)) (sym cells_are) (record {
-      rows = refs_within;
+    pub can_sum : CanSumAreas (cells_on grid.xgrid list n) areas (length (rows_of grid.xgrid list)) (element_count grid list)
+    can_sum = subst (λ (refs : List XRef). CanSumAreas refs areas (length (rows_of grid.xgrid list)) (element_count grid list)) (sym cells_are) (record {
+      reach = refs_reach;
+      long = are.count;
       most = λ k h. (
           let own = part_area_is k h in
           let most = part_most grid is whole lawful list n k below h in
@@ -141,10 +157,10 @@ module _ (grid : Grid) (is : IsNumbered grid) (whole : Whole) (lawful : IsWhole 
           omega (arith, ints, own, most, all));
     })
 
-    pub sum_is : (k : ℕ) → k < element_count grid list → area_over (cells_on grid.xgrid list n) areas (element_count grid list) k ≡ part_area grid whole list n k
-    sum_is k h = ap (λ (refs : List XRef). area_over refs areas (element_count grid list) k) cells_are ∙ part_area_is k h
+    pub sum_is : (k : ℕ) → k < element_count grid list → area_over (cells_on grid.xgrid list n) areas (length (rows_of grid.xgrid list)) k ≡ part_area grid whole list n k
+    sum_is k h = ap (λ (refs : List XRef). area_over refs areas (length (rows_of grid.xgrid list)) k) cells_are ∙ part_area_is k h
 
--- PARTS AND SKIES
+-- SKIES
 
 module _ (s : Before) where
   pub skies_are : (skies : List Sky) → length skies ≡ air_cells s.grid

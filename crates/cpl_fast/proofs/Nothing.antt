@@ -1,14 +1,14 @@
 -- Nothing flows through an element of the area 0.
-use Rattle.std.proofs.Common.{◌≡◌, ◌∙◌, refl, ap, zero, suc, ℕ, List, length, arith, ◌⊎◌, inl, inr}
-use Rattle.std.specs.Prelude.{ℤ, pos, negsuc, ◌+ℤ◌, ◌-ℤ◌, int_div}
-use Rattle.std.proofs.lemmas.Int.{ints}
+use Rattle.std.proofs.Common.{◌≡◌, ◌∙◌, ap, ℕ, List, length}
+use Rattle.std.specs.Prelude.{ℤ, pos, ◌+ℤ◌, ◌-ℤ◌, int_div}
 use Rattle.std.proofs.Math.IntN.{zero-*ℤ}
 use Rattle.cpl_fixed.specs.Shares.{part_of, share}
 use Rattle.cpl_fixed.specs.declared.rates.Rates.{Rates}
+use Rattle.cpl_flux.specs.declared.parts.Part.{Part}
+use Rattle.cpl_flux.specs.Temperatures.{part_temperature}
 use Rattle.cpl_flux.proofs.Nothing.{no_element}
 use Rattle.cpl_fast.specs.declared.flows.Sky.{Sky}
-use Rattle.cpl_fast.specs.declared.flows.WarmPart.{WarmPart}
-use Rattle.cpl_fast.specs.Flows.{area_in, before_in, flow_again, flow_at, flow_in, flow_through, no_flow, part_in}
+use Rattle.cpl_fast.specs.Flows.{area_in, before_in, flow_again, flow_at, flow_in, flow_through, no_flow, part_of_row}
 use Rattle.cpl_xgrid.specs.declared.parts.Surface.{Surface}
 use Rattle.cpl_restart.specs.FastStep.{albedo}
 use Rattle.cpl_fast.specs.Places.{place_in}
@@ -16,29 +16,25 @@ use Rattle.cpl_fast.specs.Rain.{rained_on}
 use Rattle.cpl_fast.specs.Suns.{only_sun, sun_in}
 use Rattle.cpl_fast.specs.declared.flows.Flow.{Flow}
 use Rattle.cpl_fast.specs.declared.flows.Tables.{Tables}
+use Rattle.cpl_fast.specs.declared.part_lists.PartLists.{PartLists}
 use Rattle.cpl_fast.proofs.Parts.{share_none}
-
--- an area is 0 or not
-pub zero_or_not : (x : ℤ) → (x ≡ pos 0) ⊎ (x ≡ pos 0 → ⊥)
-zero_or_not (pos zero) = inl refl
-zero_or_not (pos (suc n)) = inr (λ e. omega (arith, ints, e))
-zero_or_not (negsuc n) = inr (λ e. omega (arith, ints, e))
 
 -- nothing of no sun
 pub no_part : (kept : ℤ) → part_of (pos 0) kept (pos 1_000) ≡ pos 0
 no_part kept = ap (λ (x : ℤ). int_div x (pos 1_000)) (zero-*ℤ kept)
 
 -- nothing at all but the sun
-pub nothing_through : (rates : Rates) (sky : Sky) (warm : WarmPart) (sun : ℤ) → flow_through rates sky warm (pos 0) sun ≡ only_sun sun
-nothing_through rates sky warm sun =
-    let flux = no_element rates sky.air sky.weather warm.part warm.temperature in
+pub nothing_through : (rates : Rates) (sky : Sky) (part : Part) (sun : ℤ) → flow_through rates sky part (pos 0) sun ≡ only_sun sun
+nothing_through rates sky part sun =
+    let flux = no_element rates sky.air sky.weather part (part_temperature rates part) in
     λ i. record { heat = (flux i).heat; water = (flux i).water; sun = sun; rain = pos 0 }
 
 -- nor by the tables, where no sun stood
-pub none_again : (rates : Rates) (sky : Sky) (tables : Tables) (flows : List Flow) (row k : ℕ) → area_in tables row k ≡ pos 0 → flow_at flows (place_in (length tables.links.items) row k) ≡ no_flow → flow_again rates sky tables flows row k ≡ no_flow
+pub none_again : (rates : Rates) (sky : Sky) (tables : Tables) (parts : PartLists) (flows : List Flow) (row k : ℕ) → area_in tables row k ≡ pos 0 → flow_at flows (place_in (length tables.links.items) row k) ≡ no_flow
+    → flow_again rates sky tables parts flows row k ≡ no_flow
 unfolding flow_in
-none_again rates sky tables flows row k empty clear =
-    let part = part_in tables row k in
+none_again rates sky tables parts flows row k empty clear =
+    let part = part_of_row tables parts row k in
     (λ i. flow_through rates sky part (empty i) (clear i).sun) ∙ nothing_through rates sky part (pos 0)
 
 -- no sun

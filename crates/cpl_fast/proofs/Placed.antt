@@ -44,31 +44,6 @@ entry_set_by P xs count n k d v l within done own =
     subst (P j) (sym (get_or-set_other xs (place_in count n k) (place_in count n j) v d other)) (done j below)))
     (subst (P k) (sym (get_or-set_same xs (place_in count n k) v d within)) own)
 
--- and so where the first entry is written apart
-pub entry_more_next : {X : Type 0} (P : ℕ → X → Type 0) (xs : List X) (count n k : ℕ) (d : X) → ((j : ℕ) → j < k → P j (get_or xs (place_in count n (j + 1)) d)) → P k (get_or xs (place_in count n (k + 1)) d)
-    → (j : ℕ) → j < k + 1 → P j (get_or xs (place_in count n (j + 1)) d)
-entry_more_next P xs count n k d done own j below = elim (cases_eq j k) [
-  | inl e ↦ subst (λ i. P i (get_or xs (place_in count n (i + 1)) d)) (sym e) own
-  | inr ne ↦ done j (omega (arith, ne))
-]
-
-pub entry_set_next : {X : Type 0} (P : ℕ → X → Type 0) (xs : List X) (count n k : ℕ) (d v : X) → n < count → place_in count n (k + 1) < length xs → ((j : ℕ) → j < k → P j (get_or xs (place_in count n (j + 1)) d)) → P k v
-    → (j : ℕ) → j < k + 1 → P j (get_or (slice_set xs (place_in count n (k + 1)) v) (place_in count n (j + 1)) d)
-entry_set_next P xs count n k d v l within done own =
-    entry_more_next P (slice_set xs (place_in count n (k + 1)) v) count n k d
-    (λ j below. (
-    let apart = parts_apart count n n (j + 1) (k + 1) l (omega arith) in
-    let other : place_in count n (j + 1) ≢ place_in count n (k + 1) = omega (arith, apart) in
-    subst (P j) (sym (get_or-set_other xs (place_in count n (k + 1)) (place_in count n (j + 1)) v d other)) (done j below)))
-    (subst (P k) (sym (get_or-set_same xs (place_in count n (k + 1)) v d within)) own)
-
-pub first_stays : {X : Type 0} (xs ys : List X) (count n k : ℕ) (d v : X) → n < count → get_or xs (place_in count n 0) d ≡ get_or ys (place_in count n 0) d
-    → get_or (slice_set xs (place_in count n (k + 1)) v) (place_in count n 0) d ≡ get_or ys (place_in count n 0) d
-first_stays xs ys count n k d v l same =
-    let apart = parts_apart count n n 0 (k + 1) l (omega arith) in
-    let other : place_in count n 0 ≢ place_in count n (k + 1) = omega (arith, apart) in
-    get_or-set_other xs (place_in count n (k + 1)) (place_in count n 0) v d other ∙ same
-
 -- those behind it stay
 pub ahead_stays : {X : Type 0} (xs ys : List X) (count n k : ℕ) (d v : X) → n < count → ((j : ℕ) → k ≤ j → get_or xs (place_in count n j) d ≡ get_or ys (place_in count n j) d)
     → (j : ℕ) → k + 1 ≤ j → get_or (slice_set xs (place_in count n k) v) (place_in count n j) d ≡ get_or ys (place_in count n j) d

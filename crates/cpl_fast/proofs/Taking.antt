@@ -5,10 +5,11 @@ use Rattle.cpl_fixed.specs.Amounts.{at}
 use Rattle.cpl_mosaic.specs.Contacts.{cells_of}
 use Rattle.cpl_xgrid.specs.declared.parts.Surface.TheVariants.{Land, Ocean}
 use Rattle.cpl_restart.specs.declared.whole.Mid.{Mid}
-use Rattle.cpl_restart.specs.States.{categories, land_cells, ocean_cells}
+use Rattle.cpl_restart.specs.States.{categories, land_cells, ocean_cells, part_count}
 use Rattle.cpl_restart.specs.FastStep.{Before, rain_on}
 use Rattle.cpl_fast.specs.declared.flows.Flow.{Flow}
 use Rattle.cpl_fast.specs.declared.room.FastRoom.{FastRoom}
+use Rattle.cpl_fast.specs.Places.{AreEnds, place_in}
 use Rattle.cpl_fast.specs.Rooms.{ArePartAreas}
 use Rattle.cpl_fast.specs.Stages.{AreFlows, HasFlows, HasIce, HasLand, HasOtherLand, HasOtherSurface, IsLawful, to_ice, to_land, with_air}
 use Rattle.cpl_fast.specs.Surfaces.{CanTakeIce, CanTakeLand, HasTakenIce, HasTakenLand, land_at, ocean_at, taken_to}
@@ -56,18 +57,21 @@ module _ (s : Before) (lawful : IsLawful s) where
     ices : length ice ≡ categories s.grid * ocean_cells s.grid
     ices = ap length ice_is ∙ lawful.can.mid.whole.lengths.ice_heat
 
-    pub can_take_ice : (area : List ℤ) → ArePartAreas s.grid s.mid.whole Ocean area → CanTakeIce s.grid.xgrid flows area (categories s.grid) ice heat water
-    can_take_ice area areas =
+    pub can_take_ice : (area : List ℤ) (used : List ℕ) → ArePartAreas s.grid s.mid.whole Ocean area → AreEnds area used (ocean_cells s.grid) (part_count s.grid)
+        → CanTakeIce s.grid.xgrid flows area used (categories s.grid) ice heat water
+    can_take_ice area used areas ends =
         let own = skins in
         let most = lawful.oceans in
+        let cells = sym (ap cells_of (tiles_are s lawful.numbers Ocean)) in
         record {
-          cells = skins ∙ sym (ap cells_of (tiles_are s lawful.numbers Ocean));
+          cells = skins ∙ cells;
           few = omega (arith, most, own);
           parts = lawful.numbers.rules.column.categories.1;
           area_count = areas.count ∙ sym (ap (λ (n : ℕ). n * (categories s.grid + 1)) skins);
+          ends = subst (λ (count : ℕ). AreEnds area used count (part_count s.grid)) (sym skins) ends;
           ice_count = ices ∙ sym (ap (λ (n : ℕ). categories s.grid * n) skins);
           water_count = ap length water_is ∙ lawful.can.mid.skin_water.count ∙ sym skins;
-          still = λ n l k h e. no_sums s lawful flows are n k (omega (arith, l, own)) h (sym (areas.each n k (omega (arith, l, own)) h) ∙ e);
+          still = λ n l k h e. no_sums s lawful flows are n k (omega (arith, l, own)) h (sym (areas.each n k (omega (arith, l, own)) h) ∙ ap (λ (count : ℕ). at area (place_in count n k)) cells ∙ e);
           skins = λ n l. can_gain_skin s lawful flows are ice heat water ice_is heat_is water_is n (omega (arith, l, own));
           ices = λ n k l h. can_gain_ice s lawful flows are ice heat water ice_is heat_is water_is n k (omega (arith, l, own)) h;
         }
@@ -112,10 +116,12 @@ module _ (s : Before) (filled room : FastRoom) (mid : Mid) (have : HasFlows s (r
     water_same : half.skin_water ≡ s.mid.skin_water
     water_same = ap (λ (m : Mid). m.skin_water) on_land ∙ ap (λ (m : Mid). m.skin_water) with_its_air
 
-    pub ice_can : CanTakeIce s.grid.xgrid after.ocean_flows.items after.ocean_area.items (categories s.grid) half.whole.ice_heat half.skin_heat half.skin_water
+    pub ice_can : CanTakeIce s.grid.xgrid after.ocean_flows.items after.ocean_area.items after.ocean_used.items (categories s.grid) half.whole.ice_heat half.skin_heat half.skin_water
     ice_can =
         let areas = subst (ArePartAreas s.grid s.mid.whole Ocean) (sym (ap (λ (room : FastRoom). room.ocean_area.items) same ∙ ap (λ (room : FastRoom). room.ocean_area.items) rest)) have.seen.room.ocean_area in
-        can_take_ice s have.seen.lawful after.ocean_flows.items ice_flows half.whole.ice_heat half.skin_heat half.skin_water ice_same heat_same water_same after.ocean_area.items areas
+        let are_ends = λ (room : FastRoom). AreEnds room.ocean_area.items room.ocean_used.items (ocean_cells s.grid) (part_count s.grid) in
+        let ends = subst are_ends (sym same) (subst are_ends (sym rest) have.seen.room.room.ocean_used) in
+        can_take_ice s have.seen.lawful after.ocean_flows.items ice_flows half.whole.ice_heat half.skin_heat half.skin_water ice_same heat_same water_same after.ocean_area.items after.ocean_used.items areas ends
 
     pub ice_has : (new : Mid) → HasTakenIce s.grid.xgrid after.ocean_flows.items (categories s.grid) half.whole.ice_heat half.skin_heat half.skin_water new.whole.ice_heat new.skin_heat new.skin_water → HasIce s new
     ice_has = has_ice s have.seen.lawful after.ocean_flows.items ice_flows half.whole.ice_heat half.skin_heat half.skin_water ice_same heat_same water_same

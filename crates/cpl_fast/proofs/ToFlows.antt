@@ -1,5 +1,5 @@
 -- What flows through the elements and rains on them by the tables is that of the definitions.
-use Rattle.std.proofs.Common.{◌≡◌, ◌≢◌, ◌∙◌, sym, ap, subst, Bool, true, false, ℕ, ◌*◌, ◌<◌, ◌≤◌, arith, List, length, map, cond, min}
+use Rattle.std.proofs.Common.{◌≡◌, ◌∙◌, sym, ap, subst, Bool, true, false, ℕ, ◌*◌, ◌<◌, ◌≤◌, arith, List, length, map, cond, min}
 use Rattle.std.specs.Prelude.{ℤ, pos, ◌+ℤ◌, ◌-ℤ◌, ◌*ℤ◌, ◌≤ℤ◌}
 use Rattle.std.specs.List.{range_with_len}
 use Rattle.std.proofs.lemmas.Int.{ints}
@@ -7,21 +7,17 @@ use Rattle.cpl_fixed.specs.Amounts.{IsAmount, at}
 use Rattle.cpl_fixed.specs.Shares.{share}
 use Rattle.cpl_fixed.specs.Totals.{total_of}
 use Rattle.cpl_fixed.specs.declared.limits.TheConstants.{VAPOUR_HEAT, WATER_HEAT}
-use Rattle.cpl_fixed.specs.declared.rates.Rates.{Rates}
 use Rattle.cpl_flux.specs.declared.parts.AirSide.{AirSide}
 use Rattle.cpl_flux.specs.declared.parts.Part.{Part}
-use Rattle.cpl_flux.specs.declared.parts.Kind.{Kind}
-use Rattle.cpl_flux.specs.declared.parts.Kind.TheVariants as kind
 use Rattle.cpl_flux.specs.declared.temperatures.TheConstants.{FREEZING, HOTTEST}
 use Rattle.cpl_flux.specs.Elements.{IsElement, IsPart}
-use Rattle.cpl_flux.specs.Temperatures.{temperature, temperature_by, weather}
-use Rattle.cpl_mosaic.specs.Contacts.{cells_of}
+use Rattle.cpl_flux.specs.Temperatures.{temperature, weather}
 use Rattle.cpl_xgrid.specs.Rows.{refs_to, rows_of}
 use Rattle.cpl_xgrid.specs.declared.parts.XRef.{XRef}
 use Rattle.cpl_xgrid.specs.declared.parts.Surface.{Surface}
 use Rattle.cpl_xgrid.specs.declared.parts.Surface.TheVariants.{Land, Ocean}
 use Rattle.cpl_restart.specs.States.{air_cells, air_side}
-use Rattle.cpl_restart.specs.Elements.{air_number, area_before, element_area, element_count, over_all, over_elements, surface_number, share_at, tiles_of}
+use Rattle.cpl_restart.specs.Elements.{air_number, area_before, element_area, element_count, over_all, over_elements, surface_number, share_at}
 use Rattle.cpl_restart.specs.FastStep.{Before, absorbed, entered, heat_down, heat_given, rain, rain_on, surface_part, water_given, water_up, for_each}
 use Rattle.cpl_restart.specs.FastLaws.{IsPlaced}
 use Rattle.cpl_laws.proofs.Elements.{air_below, surface_below}
@@ -33,19 +29,18 @@ use Rattle.cpl_laws.specs.Once.{IsNumbered}
 use Rattle.cpl_fast.specs.declared.flows.Flow.{Flow}
 use Rattle.cpl_fast.specs.declared.flows.Sky.{Sky}
 use Rattle.cpl_fast.specs.declared.flows.Tables.{Tables}
-use Rattle.cpl_fast.specs.declared.flows.WarmPart.{WarmPart}
+use Rattle.cpl_fast.specs.declared.part_lists.PartLists.{PartLists}
 use Rattle.cpl_fast.specs.declared.sums.Sums.{Sums}
 use Rattle.cpl_fast.specs.Filled.{AreSkies, AreTables}
-use Rattle.cpl_fast.specs.Flows.{CanFlow, IsInCell, IsSky, area_in, before_in, flow_again, flow_at, link_at, part_in, sky_at, sky_of}
+use Rattle.cpl_fast.specs.Flows.{CanFlow, IsInCell, IsSky, area_in, before_in, flow_again, flow_at, link_at, part_of_row, sky_at, sky_of}
+use Rattle.cpl_fast.specs.PartLists.{AreParts}
 use Rattle.cpl_fast.specs.Places.{place_in}
 use Rattle.cpl_fast.specs.Rain.{AreDry, in_list, rain_in, rain_on_row, rained_on}
 use Rattle.cpl_fast.specs.Rooms.{HaveSuns}
 use Rattle.cpl_fast.specs.Stages.{AreFlows, IsLawful, dry, flow_of, given, sums_of}
 use Rattle.cpl_fast.specs.Sums.{SumsAre, net_heat, taken}
-use Rattle.cpl_fast.specs.Tables.{warm_part}
 use Rattle.cpl_fast.proofs.Elementwise.{list_is}
-use Rattle.cpl_fast.proofs.Found.{area_found, before_found, flow_found, part_found, sky_found, some_part}
-use Rattle.cpl_fast.proofs.Placed.{entry_within}
+use Rattle.cpl_fast.proofs.Found.{area_found, before_found, flow_found, part_found, sky_found}
 use Rattle.cpl_fast.proofs.InRange.{air_in_range, part_in_range}
 
 -- TEMPERATURES
@@ -56,11 +51,6 @@ coolest false t = omega arith
 
 temperature_most : (heat capacity : ℕ) → temperature heat capacity ≤ HOTTEST
 temperature_most heat capacity = coolest _ _
-
-by_kind : (rates : Rates) (part : Part) (k : Kind) → temperature_by rates part k ≤ HOTTEST
-by_kind rates part kind.Land = temperature_most _ _
-by_kind rates part kind.Water = temperature_most _ _
-by_kind rates part kind.Ice = omega arith
 
 -- ROWS
 
@@ -119,9 +109,6 @@ module _ (s : Before) (lawful : IsLawful s) (list : Surface) (tables : Tables) (
     placed : IsPlaced s (ref m) k
     placed = lawful.keeps.placed (ref m) k (record { row = l; part = h })
 
-    part_is : area_in tables m k ≢ pos 0 → part_in tables m k ≡ warm_part s.rates (surface_part s.grid s.mid list (surface_number s.grid (ref m)) k)
-    part_is some = part_found s list tables skies are seen lawful.numbers lawful.can m k l h (some_part s list tables skies are seen lawful.numbers lawful.can m k l h placed some)
-
     below : air_number s.grid (ref m) < air_cells s.grid
     below = air_below s.grid lawful.numbers list m l
 
@@ -131,16 +118,6 @@ module _ (s : Before) (lawful : IsLawful s) (list : Surface) (tables : Tables) (
           air = air_in_range s lawful.numbers lawful.can.air lawful.mates lawful.can (air_number s.grid (ref m)) below;
           temperature = temperature_most _ _;
         })
-
-    place_is : place_in tables.cells (link_at tables.links.items m).surface k < length tables.parts.items
-    place_is =
-        let e = (are.links.each m l).surface in
-        let cells = are.cells in
-        let here = surface_below s.grid lawful.numbers list m l in
-        let inside = entry_within _ width (surface_number s.grid (ref m)) k here h in
-        let same : place_in tables.cells (link_at tables.links.items m).surface k ≡ place_in (cells_of (tiles_of s.grid list)) (surface_number s.grid (ref m)) k = (λ i. place_in (cells i) (e i) k) in
-        let count = are.count in
-        omega (arith, same, inside, count)
 
     least : pos 0 ≤ℤ area_in tables m k
     least = let e = area_is in let p = placed.element.least in omega (arith, ints, e, p)
@@ -156,20 +133,17 @@ module _ (s : Before) (lawful : IsLawful s) (list : Surface) (tables : Tables) (
         let e : (sky_of skies tables m).air.area ≡ at s.grid.air.area (air_number s.grid (ref m)) = ap (λ (sky : Sky). sky.air.area) sky_is in
         omega (arith, ints, a, b, p, e)
 
-    can_flow_here : CanFlow (sky_of skies tables m) tables m k
-    can_flow_here =
+    can_flow_here : (parts : PartLists) → AreParts s list parts → CanFlow (sky_of skies tables m) tables parts m k
+    can_flow_here parts own =
         let n = surface_number s.grid (ref m) in
+        let part = part_found s list tables parts skies are own seen lawful.numbers lawful.can m k l h in
         record {
           seen = sky_in_range;
-          place = place_is;
-          part = λ some. record {
-            range = subst (λ (w : WarmPart). IsPart w.part) (sym (part_is some)) (part_in_range s lawful.numbers lawful.can.air lawful.mates lawful.can list n k (surface_below s.grid lawful.numbers list m l) h);
-            temperature = subst (λ (w : WarmPart). w.temperature ≤ HOTTEST) (sym (part_is some)) (by_kind s.rates (surface_part s.grid s.mid list n k) (surface_part s.grid s.mid list n k).kind);
-            element =
-                subst (λ (sky : Sky). IsElement sky.air (part_in tables m k).part (area_in tables m k)) (sym sky_is)
-                (subst (λ (w : WarmPart). IsElement air_of w.part (area_in tables m k)) (sym (part_is some))
-                (subst (λ (b : ℤ). IsElement air_of (surface_part s.grid s.mid list n k) b) (sym area_is) placed.element));
-          };
+          part = subst IsPart (sym part) (part_in_range s lawful.numbers lawful.can.air lawful.mates lawful.can list n k (surface_below s.grid lawful.numbers list m l) h);
+          element =
+              subst (λ (sky : Sky). IsElement sky.air (part_of_row tables parts m k) (area_in tables m k)) (sym sky_is)
+              (subst (λ (p : Part). IsElement air_of p (area_in tables m k)) (sym part)
+              (subst (λ (b : ℤ). IsElement air_of (surface_part s.grid s.mid list n k) b) (sym area_is) placed.element));
         }
 
     can_rain_here : IsInCell (sky_of skies tables m).air.area tables m k
@@ -203,22 +177,32 @@ module _ (s : Before) (lawful : IsLawful s) (list : Surface) (tables : Tables) (
   part_above : (k : ℕ) → k < width → k < tables.width
   part_above k h = let w = are.width in omega (arith, h, w)
 
-  pub can_flow : (m k : ℕ) → m < length tables.links.items → k < tables.width → CanFlow (sky_of skies tables m) tables m k
-  can_flow m k l h = can_flow_here m k (row_below m l) (part_below k h)
-
   pub few : length tables.links.items ≤ 1_048_576
   few = let e = are.links.count in let most = rows_most list in omega (arith, e, most)
 
-  pub flows_are : (old flows : List Flow) → HaveSuns s list old → length flows ≡ rows * width
-      → ((m k : ℕ) → m < length tables.links.items → k < tables.width → flow_at flows (place_in (length tables.links.items) m k) ≡ flow_again s.rates (sky_of skies tables m) tables old m k)
-      → AreFlows s dry list flows
-  flows_are old flows suns count value = record {
-    count = count;
-    each = λ m k l h. (
-        let sun = ap (λ (r : ℕ). (flow_at old (place_in r m k)).sun) are.links.count ∙ suns.each m k l h in
-        ap (λ (r : ℕ). flow_at flows (place_in r m k)) (sym are.links.count) ∙ value m k (row_above m l) (part_above k h)
-        ∙ flow_found s list tables skies are seen lawful.numbers lawful.can m k l h (placed m k l h) _ sun);
-  }
+  -- what flows by the parts of its surface
+  module _ (parts : PartLists) (own : AreParts s list parts) where
+    pub cells : (m : ℕ) → m < length tables.links.items → (link_at tables.links.items m).surface < length parts.heat.now
+    cells m l =
+        let h = row_below m l in
+        let e = (are.links.each m h).surface in
+        let below = surface_below s.grid lawful.numbers list m h in
+        let long = own.cells in
+        omega (arith, e, below, long)
+
+    pub can_flow : (m k : ℕ) → m < length tables.links.items → k < tables.width → CanFlow (sky_of skies tables m) tables parts m k
+    can_flow m k l h = can_flow_here m k (row_below m l) (part_below k h) parts own
+
+    pub flows_are : (old flows : List Flow) → HaveSuns s list old → length flows ≡ rows * width
+        → ((m k : ℕ) → m < length tables.links.items → k < tables.width → flow_at flows (place_in (length tables.links.items) m k) ≡ flow_again s.rates (sky_of skies tables m) tables parts old m k)
+        → AreFlows s dry list flows
+    flows_are old flows suns count value = record {
+      count = count;
+      each = λ m k l h. (
+          let sun = ap (λ (r : ℕ). (flow_at old (place_in r m k)).sun) are.links.count ∙ suns.each m k l h in
+          ap (λ (r : ℕ). flow_at flows (place_in r m k)) (sym are.links.count) ∙ value m k (row_above m l) (part_above k h)
+          ∙ flow_found s list tables parts skies are own seen lawful.numbers lawful.can m k l h _ sun);
+    }
 
   -- RAIN
 

@@ -92,10 +92,10 @@ module _ (s : Before) (lawful : IsLawful s) (sun area : List ℤ) (strength : �
       placed = lawful.keeps.placed (ref m) k (record { row = l; part = h })
 
       own_area : area_in tables m k ≡ element_area s.grid s.mid.whole (ref m) k
-      own_area = area_by s list tables has.width has.links are lawful.numbers lawful.can m l k h
+      own_area = area_by s list tables has.links are lawful.numbers lawful.can m l k h
 
       before_is : before_in tables m k ≡ area_before s.grid s.mid.whole (ref m) k
-      before_is = before_by s list tables has.width has.links are lawful.numbers lawful.can m l k h
+      before_is = before_by s list tables has.links are lawful.numbers lawful.can m l k h
 
       whole_is : at area (link_at tables.links.items m).air ≡ at s.grid.air.area (air_number s.grid (ref m))
       whole_is = λ i. at (area_is i) ((has.links.each m l).air i)

@@ -1,4 +1,5 @@
 pub mod Places
+pub mod PartLists
 pub mod Flows
 pub mod Sums
 pub mod Air

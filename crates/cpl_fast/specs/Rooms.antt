@@ -1,5 +1,5 @@
 -- Room for fast steps, and what a fast step goes by.
-use Rattle.std.specs.Prelude.{◌≡◌, ℕ, ◌+◌, ◌*◌, ◌<◌, List, length, ℤ}
+use Rattle.std.specs.Prelude.{◌≡◌, ℕ, ◌*◌, ◌<◌, List, length, ℤ}
 use Rattle.cpl_fixed.specs.Amounts.{at}
 use Rattle.cpl_fixed.specs.declared.rates.Rates.{Rates}
 use Rattle.cpl_diffusion.specs.Steps.{AreWays, IsRoom}
@@ -17,8 +17,8 @@ use Rattle.cpl_fast.specs.declared.flows.Flow.{Flow}
 use Rattle.cpl_fast.specs.declared.flows.Tables.{Tables}
 use Rattle.cpl_fast.specs.declared.room.FastRoom.{FastRoom}
 use Rattle.cpl_fast.specs.Filled.{AreElementAreas}
-use Rattle.cpl_fast.specs.Flows.{flow_at}
-use Rattle.cpl_fast.specs.Places.{place_in}
+use Rattle.cpl_fast.specs.Flows.{AreUsed, flow_at}
+use Rattle.cpl_fast.specs.Places.{AreEnds, place_in}
 use Rattle.cpl_fast.specs.Sums.{AreClear, AreStill}
 use Rattle.cpl_fast.specs.Tables.{AreLinks}
 
@@ -26,13 +26,12 @@ use Rattle.cpl_fast.specs.Tables.{AreLinks}
 abbrev pub before_step : Grid → Rates → (month : ℕ) → Mid → Before
 before_step grid rates month mid = record { grid = grid; rates = rates; month = month; mid = mid }
 
--- the tables of a list: its links, and room for the areas of its elements and for the parts of its surface
+-- the tables of a list: its links, and room for the areas of its elements
 pub record HasTables (grid : Grid) (list : Surface) (tables : Tables) : Type 0 where
   pub width : tables.width ≡ element_count grid list
-  pub cells : tables.cells ≡ cells_of (tiles_of grid list)
   pub links : AreLinks grid list tables.links.items
   pub areas : length tables.areas.items ≡ length (rows_of grid.xgrid list) * element_count grid list
-  pub parts : length tables.parts.items ≡ cells_of (tiles_of grid list) * element_count grid list
+  pub used : AreUsed tables
 
 -- room for the fast steps of a grid: the faces of the air and the links of the rows, and a number for whatever a step writes; nothing
 -- flows through elements whose area in the tables is 0
@@ -43,6 +42,7 @@ pub record IsFastRoom (grid : Grid) (room : FastRoom) : Type 0 where
   pub ocean : HasTables grid Ocean room.ocean
   pub land_area : length room.land_area.items ≡ land_cells grid
   pub ocean_area : length room.ocean_area.items ≡ ocean_cells grid * element_count grid Ocean
+  pub ocean_used : AreEnds room.ocean_area.items room.ocean_used.items (ocean_cells grid) (element_count grid Ocean)
   pub land_flows : length room.land_flows.items ≡ length (rows_of grid.xgrid Land)
   pub ocean_flows : length room.ocean_flows.items ≡ length (rows_of grid.xgrid Ocean) * element_count grid Ocean
   pub skies : length room.skies.items ≡ air_cells grid
@@ -52,11 +52,11 @@ pub record IsFastRoom (grid : Grid) (room : FastRoom) : Type 0 where
   pub land_clear : AreClear room.land room.land_flows.items
   pub ocean_clear : AreClear room.ocean room.ocean_flows.items
 
--- the areas of the parts of a surface, cell by cell
+-- the areas of the parts of a surface, part by part
 pub record ArePartAreas (grid : Grid) (whole : Whole) (list : Surface) (areas : List ℤ) : Type 0 where
   pub count : length areas ≡ cells_of (tiles_of grid list) * element_count grid list
   pub each : (n k : ℕ) → n < cells_of (tiles_of grid list) → k < element_count grid list
-      → at areas (n * element_count grid list + k) ≡ part_area grid whole list n k
+      → at areas (place_in (cells_of (tiles_of grid list)) n k) ≡ part_area grid whole list n k
 
 -- room in which nothing flows at all
 pub record IsStillRoom (grid : Grid) (fast : FastRoom) : Type 0 where

@@ -17,6 +17,7 @@ use Rattle.cpl_fast.specs.declared.ocean.IceTaken.{IceTaken}
 use Rattle.cpl_fast.specs.declared.sums.Sums.{Sums}
 use Rattle.cpl_fast.specs.declared.sums.After.{After}
 use Rattle.cpl_fast.specs.declared.sums.Taken.{Taken}
+use Rattle.cpl_fast.specs.Places.{AreEnds, place_in}
 use Rattle.cpl_fast.specs.Sums.{after, none, reaches, sums_in, taken, with_rain}
 
 -- the exchange cells of cell n of a surface
@@ -78,7 +79,7 @@ ocean_sums xgrid flows n k = sums_in flows (length (rows_of xgrid Ocean)) k (ref
 -- nothing flows through the parts of cell n that have the area 0
 abbrev pub IsStill : XGridLists → List Flow → (area : List ℤ) → (categories n : ℕ) → Type 0
 IsStill xgrid flows area categories n =
-    (k : ℕ) → k < categories + 1 → at area (n * (categories + 1) + k) ≡ pos 0 → ocean_sums xgrid flows n k ≡ none
+    (k : ℕ) → k < categories + 1 → at area (place_in (cells_of xgrid.ocean) n k) ≡ pos 0 → ocean_sums xgrid flows n k ≡ none
 
 -- what a category gains, the sun with it
 abbrev pub category_gain : XGridLists → List Flow → (n k : ℕ) → ℤ
@@ -108,12 +109,14 @@ pub record CanGainSkin (xgrid : XGridLists) (flows : List Flow) (categories : �
   pub heat_range : IsAmount (skin_at xgrid flows categories heat water n).heat
   pub water_range : IsAmount (skin_at xgrid flows categories heat water n).water
 
--- lists of categories and of skins that can take what flows, where `area` has the areas of all parts
-pub record CanTakeIce (xgrid : XGridLists) (flows : List Flow) (area : List ℤ) (categories : ℕ) (ice heat water : List ℤ) : Type 0 where
+-- lists of categories and of skins that can take what flows, where `area` has the areas of all parts, and `used` how many of each cell
+-- are looked at
+pub record CanTakeIce (xgrid : XGridLists) (flows : List Flow) (area : List ℤ) (used : List ℕ) (categories : ℕ) (ice heat water : List ℤ) : Type 0 where
   pub cells : length heat ≡ cells_of xgrid.ocean
   pub few : length heat ≤ MOST_CELLS
   pub parts : categories ≤ 5
   pub area_count : length area ≡ length heat * (categories + 1)
+  pub ends : AreEnds area used (length heat) (categories + 1)
   pub ice_count : length ice ≡ categories * length heat
   pub water_count : length water ≡ length heat
   pub still : (n : ℕ) → n < length heat → IsStill xgrid flows area categories n

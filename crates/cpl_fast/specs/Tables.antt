@@ -1,5 +1,5 @@
--- The tables that flows are looked up in: the links of the rows, the areas of the elements, the parts of the surface and the skies.
-use Rattle.std.specs.Prelude.{◌≡◌, ◌≢◌, ℕ, zero, suc, ◌+◌, ◌*◌, ◌<◌, ◌≤◌, List, map, take, length, ℤ, pos, ◌+ℤ◌, ◌≤ℤ◌, slice_index_or, slice_range, All}
+-- The tables that flows are looked up in: the links of the rows, the skies, and the areas of elements and of parts.
+use Rattle.std.specs.Prelude.{◌≡◌, ℕ, ◌+◌, ◌*◌, ◌<◌, List, map, take, length, ℤ, pos, ◌+ℤ◌, ◌≤ℤ◌, slice_index_or, slice_range, All}
 use Rattle.cpl_fixed.specs.Amounts.{at}
 use Rattle.cpl_fixed.specs.Totals.{total_of}
 use Rattle.cpl_fixed.specs.declared.limits.TheConstants.{MOST_AREA, MOST_TOTAL}
@@ -8,10 +8,7 @@ use Rattle.cpl_mosaic.specs.declared.parts.Tile.{Tile}
 use Rattle.cpl_mosaic.specs.Contacts.{cells_of}
 use Rattle.cpl_mosaic.specs.Cells.{number_of, cell_of}
 use Rattle.cpl_flux.specs.declared.parts.AirSide.{AirSide}
-use Rattle.cpl_flux.specs.declared.parts.Part.{Part}
-use Rattle.cpl_flux.specs.declared.parts.Kind.{Kind}
-use Rattle.cpl_flux.specs.declared.parts.Kind.TheVariants as kind
-use Rattle.cpl_flux.specs.Temperatures.{weather, part_temperature}
+use Rattle.cpl_flux.specs.Temperatures.{weather}
 use Rattle.cpl_xgrid.specs.declared.grid.Grid.{Grid}
 use Rattle.cpl_xgrid.specs.declared.parts.XRow.{XRow}
 use Rattle.cpl_xgrid.specs.declared.parts.XRef.{XRef}
@@ -23,8 +20,9 @@ use Rattle.cpl_xgrid.specs.Indexes.{AreCells, no_row}
 use Rattle.cpl_restart.specs.Elements.{air_number, surface_number, rows_before}
 use Rattle.cpl_fast.specs.declared.flows.Link.{Link}
 use Rattle.cpl_fast.specs.declared.flows.Sky.{Sky}
-use Rattle.cpl_fast.specs.declared.flows.WarmPart.{WarmPart}
 use Rattle.cpl_fast.specs.Flows.{link_at}
+use Rattle.cpl_fast.specs.Places.{place_in}
+use Rattle.cpl_fast.specs.Sums.{reaches}
 
 -- LINKS
 
@@ -82,37 +80,6 @@ sky_under rates air = record { air = air; weather = weather rates air }
 abbrev pub sky_by : Rates → (heat vapour area : List ℤ) → ℕ → Sky
 sky_by rates heat vapour area n = sky_under rates (side_of heat vapour area n)
 
--- PARTS
-
--- a part of the surface with its temperature
-abbrev pub warm_part : Rates → Part → WarmPart
-warm_part rates part = record { part = part; temperature = part_temperature rates part }
-
--- what stands in a table for a part that has an area is that part; for any other, whatever was there
-abbrev pub StandsFor : Rates → Part → WarmPart → Type 0
-StandsFor rates part warm = part.area ≢ pos 0 → warm ≡ warm_part rates part
-
--- a part by its numbers
-abbrev pub part_by : Kind → (heat mass area : ℤ) → Part
-part_by kind heat mass area = record { kind = kind; heat = heat; mass = mass; area = area }
-
--- the part of cell n of the land, by lists
-abbrev pub land_by : (heat water area : List ℤ) → ℕ → Part
-land_by heat water area n = part_by kind.Land (at heat n) (at water n) (at area n)
-
--- the open water of cell n of the ocean's mosaic, by lists
-abbrev pub water_by : (heat water area : List ℤ) → (categories n : ℕ) → Part
-water_by heat water area categories n = part_by kind.Water (at heat n) (at water n) (at area (n * (categories + 1)))
-
--- its category k, counted from 0
-abbrev pub ice_by : (heat ice area : List ℤ) → (categories n k : ℕ) → Part
-ice_by heat ice area categories n k = part_by kind.Ice (at heat (n * categories + k)) (at ice (n * categories + k)) (at area (n * (categories + 1) + 1 + k))
-
--- its part k, where open water is part 0
-unfoldable pub ocean_by : (heat water ice_heat ice area : List ℤ) → (categories n k : ℕ) → Part
-ocean_by heat water ice_heat ice area categories n zero = water_by heat water area categories n
-ocean_by heat water ice_heat ice area categories n (suc k) = ice_by ice_heat ice area categories n k
-
 -- AREAS OF PARTS
 
 -- the exchange cells of cell n of a surface
@@ -120,11 +87,12 @@ abbrev pub cells_on : XGridLists → Surface → ℕ → List XRef
 cells_on xgrid Land n = refs_of_other Land xgrid.land_rows (cell_of xgrid.land n)
 cells_on xgrid Ocean n = refs_of_other Ocean xgrid.ocean_rows (cell_of xgrid.ocean n)
 
--- the area of part k of exchange cells: the sum over its elements
-unfoldable pub area_over : List XRef → (areas : List ℤ) → (width k : ℕ) → ℤ
-area_over refs areas width k = total_of (map (λ (ref : XRef). at areas (ref.row * width + k)) refs)
+-- the area of part k of exchange cells: the sum over its elements, in a list of so many rows
+unfoldable pub area_over : List XRef → (areas : List ℤ) → (rows k : ℕ) → ℤ
+area_over refs areas rows k = total_of (map (λ (ref : XRef). at areas (place_in rows ref.row k)) refs)
 
 -- exchange cells that have their elements in a table
-pub record CanSumAreas (refs : List XRef) (areas : List ℤ) (width : ℕ) : Type 0 where
-  pub rows : All (λ (ref : XRef). ref.row * width + width ≤ length areas) refs
-  pub most : (k : ℕ) → k < width → area_over refs areas width k ≤ℤ pos MOST_TOTAL
+pub record CanSumAreas (refs : List XRef) (areas : List ℤ) (rows width : ℕ) : Type 0 where
+  pub reach : All (reaches rows) refs
+  pub long : length areas ≡ rows * width
+  pub most : (k : ℕ) → k < width → area_over refs areas rows k ≤ℤ pos MOST_TOTAL

@@ -8,7 +8,7 @@ ghost use Rattle.cpl_fixed.specs.Totals.{total_of};
 ghost use Rattle.cpl_fixed.specs.declared.limits.TheConstants.{MOST_AREA, MOST_CELLS, WATER_HEAT};
 ghost use Rattle.cpl_mosaic.specs.Contacts.{cells_of};
 ghost use Rattle.cpl_flux.specs.Elements.{IsAirSide};
-ghost use Rattle.cpl_fast.specs.Flows.{sky_at};
+ghost use Rattle.cpl_fast.specs.Flows.{AreUsed, sky_at};
 ghost use Rattle.cpl_fast.specs.Sums.{AreClear, AreSmall, IsSmall};
 ghost use Rattle.cpl_fast.specs.Air.{CanRain, after_rain, moist, rain_of, rained, rained_at, warm};
 
@@ -103,6 +103,7 @@ pub fn let_rain(rates: &Rates, air: &AirSide, sums: &Sums) -> Rained
 }
 
 // Cell n of the air after it has rained. The tables are the ocean's.
+#[inline]
 fn air_cell(
     rates: &Rates,
     xgrid: &XGrid,
@@ -118,6 +119,7 @@ fn air_cell(
     requires rows { length tables.now.links.items ≡ length xgrid.now.ocean_rows }
     requires flows { length ocean.now ≡ length tables.now.links.items * tables.now.width }
     requires areas { length tables.now.areas.items ≡ length ocean.now }
+    requires used { AreUsed tables.now }
     requires clear { AreClear tables.now ocean.now }
     requires can { CanRain rates.now xgrid.now air.now tables.now.width land.now ocean.now n }
     ensures value { result ≡ rained_at rates.now xgrid.now air.now tables.now.width land.now ocean.now n }
@@ -146,6 +148,7 @@ pub(crate) fn air_lists(
     requires rows { length tables.now.links.items ≡ length xgrid.now.ocean_rows }
     requires flows { length ocean.now ≡ length tables.now.links.items * tables.now.width }
     requires areas { length tables.now.areas.items ≡ length ocean.now }
+    requires used { AreUsed tables.now }
     requires clear { AreClear tables.now ocean.now }
     requires can { (n : ℕ) → n < length skies.now → CanRain rates.now xgrid.now (sky_at skies.now n).air tables.now.width land.now ocean.now n }
     requires heat { length heat.old ≡ length skies.now }

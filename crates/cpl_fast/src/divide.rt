@@ -5,50 +5,32 @@ ghost use Rattle.cpl_restart.specs.States.{IsWhole};
 ghost use Rattle.cpl_xgrid.specs.declared.parts.Surface.TheVariants.{Land, Ocean};
 ghost use Rattle.cpl_laws.specs.Once.{IsNumbered};
 ghost use Rattle.cpl_fast.specs.Filled.{AreElementAreas};
+ghost use Rattle.cpl_fast.specs.Flows.{AreUsed};
 ghost use Rattle.cpl_fast.specs.Rooms.{HasTables};
 
-use crate::flows::{Link, Tables, WarmPart};
+use crate::flows::{Link, Tables};
 use crate::tables::{fill_land_areas, fill_ocean_areas};
-use cpl_flux::{Kind, Part};
 use cpl_restart::Whole;
 use cpl_xgrid::{Grid, Surface};
 use std::alloc::{AllocError, Global};
 
-// A part that no state has filled yet.
-const NO_PART: WarmPart = WarmPart {
-    part: Part {
-        kind: Kind::Land,
-        heat: 0,
-        mass: 0,
-        area: 0,
-    },
-    temperature: 0,
-};
-
 impl Tables {
-    // Tables with these links over as many cells of the surface, each of `width` parts. The areas and the parts are to be filled.
-    pub(crate) fn new(
-        alloc: Global,
-        links: Vec<Link>,
-        cells: u32,
-        width: usize,
-    ) -> Result<Tables, AllocError>
+    // Tables with these links, each row of `width` elements. The areas are to be set.
+    pub(crate) fn new(alloc: Global, links: Vec<Link>, width: usize) -> Result<Tables, AllocError>
         requires rows { length links.items ≤ MOST_EXCHANGE_CELLS }
         requires width { width ≤ 6 }
         ensures width { IfOk result (λ tables. tables.width ≡ width) }
-        ensures cells { IfOk result (λ tables. tables.cells ≡ cells) }
         ensures links { IfOk result (λ tables. tables.links.items ≡ links.items) }
         ensures areas { IfOk result (λ tables. length tables.areas.items ≡ length links.items * width) }
-        ensures parts { IfOk result (λ tables. length tables.parts.items ≡ cells * width) }
+        ensures used { IfOk result AreUsed }
     {
         let areas = vec![in alloc; 0; links.len() * width]?;
-        let parts = vec![in alloc; NO_PART; cells as usize * width]?;
+        let used = vec![in alloc; 0; links.len()]?;
         Ok(Tables {
             width,
-            cells: cells as usize,
             links,
             areas,
-            parts,
+            used,
         })
     }
 
@@ -60,7 +42,11 @@ impl Tables {
         ensures tables { HasTables grid.now Land self.new }
         ensures areas { AreElementAreas grid.now whole.now Land self.new.areas.items }
     {
-        fill_land_areas(grid.xgrid.rows(Surface::Land), &mut self.areas);
+        fill_land_areas(
+            grid.xgrid.rows(Surface::Land),
+            &mut self.areas,
+            &mut self.used,
+        );
     }
 
     // Sets the areas of the elements of the ocean list by the parts of a state.
@@ -73,6 +59,13 @@ impl Tables {
     {
         let rows = grid.xgrid.rows(Surface::Ocean);
         let parts = whole.parts.as_slice();
-        fill_ocean_areas(rows, &self.links, parts, self.width, &mut self.areas);
+        fill_ocean_areas(
+            rows,
+            &self.links,
+            parts,
+            self.width,
+            &mut self.areas,
+            &mut self.used,
+        );
     }
 }

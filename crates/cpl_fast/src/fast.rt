@@ -76,7 +76,7 @@ impl FastRoom {
         let _airs = view.grid.air.mosaic.cells();
         let _lands = view.grid.land.mosaic.cells();
         let _oceans = view.grid.ocean.mosaic.cells();
-        self.look(view.grid, view.rates, view.month, view.mid);
+        self.look_up(view.grid, view.rates, view.month, view.mid);
         let flown = self.flow(view);
         let left = self.let_rain(view);
         let given = self.rain_down(view, &flown);

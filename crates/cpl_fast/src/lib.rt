@@ -11,6 +11,7 @@ mod look;
 mod numbers;
 mod ocean;
 mod once;
+mod part_lists;
 mod portions;
 mod rain;
 mod room;
@@ -22,7 +23,7 @@ mod tables;
 
 pub use air::{Rained, let_rain};
 pub use fast::{FastTally, step};
-pub use flows::{Flow, Link, Sky, Tables, WarmPart, flow_through};
+pub use flows::{Flow, Link, Sky, Tables, flow_through};
 pub use once::fast_step;
 pub use portions::Portions;
 pub use room::FastRoom;

@@ -3,7 +3,7 @@ ghost use Rattle.std.specs.Prelude.{◌≡◌, ◌≢◌, ℕ, ◌*◌, ◌<◌,
 ghost use Rattle.std.specs.List.{range_with_len};
 ghost use Rattle.cpl_fixed.specs.Amounts.{IsAmount, at};
 ghost use Rattle.cpl_fixed.specs.Totals.{total_of};
-ghost use Rattle.cpl_fast.specs.Flows.{IsInCell, flow_at, link_at, sky_at};
+ghost use Rattle.cpl_fast.specs.Flows.{AreUsed, IsInCell, flow_at, link_at, sky_at};
 ghost use Rattle.cpl_fast.specs.Places.{place_in};
 ghost use Rattle.cpl_fast.specs.Rain.{AreDry, rain_on_row, rained_on};
 ghost use Rattle.cpl_fast.specs.Sums.{AreClear, IsClear, IsSmall};
@@ -20,6 +20,7 @@ fn row_rain(rain: i64, area: i64, tables: &Tables, row: usize, flows: &mut [Flow
     requires width { tables.now.width ≤ 6 }
     requires flows { length flows.old ≡ length tables.now.links.items * tables.now.width }
     requires areas { length tables.now.areas.items ≡ length tables.now.links.items * tables.now.width }
+    requires used { AreUsed tables.now }
     requires clear { IsClear tables.now flows.old row }
     ensures row { (k : ℕ) → k < tables.now.width → flow_at flows.new (place_in (length tables.now.links.items) row k) ≡ rained_on rain area tables.now flows.old row k }
     ensures others { (r k : ℕ) → r < length tables.now.links.items → r ≢ row
@@ -29,7 +30,7 @@ fn row_rain(rain: i64, area: i64, tables: &Tables, row: usize, flows: &mut [Flow
 {
     let mut sum = 0i128;
     let mut portions = tables.portions(row, rain, area);
-    for k in 0..tables.width {
+    for k in 0..tables.used(row) {
         let b = tables.area(row, k);
         if b != 0 {
             let share = portions.next(b);
@@ -52,6 +53,7 @@ pub(crate) fn list_rain(skies: &[Sky], rain: &[i64], tables: &Tables, flows: &mu
     requires few { length tables.now.links.items ≤ 1_048_576 }
     requires flows { length flows.old ≡ length tables.now.links.items * tables.now.width }
     requires areas { length tables.now.areas.items ≡ length tables.now.links.items * tables.now.width }
+    requires used { AreUsed tables.now }
     requires clear { AreClear tables.now flows.old }
     requires dry { AreDry tables.now flows.old }
     ensures flows { (row k : ℕ) → row < length tables.now.links.items → k < tables.now.width

@@ -40,9 +40,11 @@ pub struct FastRoom {
     // The land has one part a cell; the ocean's mosaic has open water and the categories.
     pub(crate) land: Tables,
     pub(crate) ocean: Tables,
-    // The areas of the parts of all cells, as the state divides them.
+    // The areas of the parts of all cells, as the state divides them, part by part, and how many of each cell's first parts are looked
+    // at: no further one has an area.
     pub(crate) land_area: Vec<i64>,
     pub(crate) ocean_area: Vec<i64>,
+    pub(crate) ocean_used: Vec<u8>,
     pub(crate) land_flows: Vec<Flow>,
     pub(crate) ocean_flows: Vec<Flow>,
     pub(crate) skies: Vec<Sky>,
@@ -85,10 +87,11 @@ impl FastRoom {
         Ok(FastRoom {
             ways: make_ways(alloc, &grid.air)?,
             diffusion: make_room(alloc, airs as usize)?,
-            land: Tables::new(alloc, land, lands, 1)?,
-            ocean: Tables::new(alloc, ocean, oceans, width)?,
+            land: Tables::new(alloc, land, 1)?,
+            ocean: Tables::new(alloc, ocean, width)?,
             land_area: vec![in alloc; 0; lands as usize]?,
             ocean_area: vec![in alloc; 0; oceans as usize * width]?,
+            ocean_used: vec![in alloc; 0; oceans as usize]?,
             land_flows: no_flows(alloc, land_rows)?,
             ocean_flows: no_flows(alloc, ocean_rows * width)?,
             skies: vec![in alloc; NO_SKY; airs as usize]?,
@@ -137,6 +140,7 @@ impl FastRoom {
             &self.ocean.areas,
             self.ocean.width,
             &mut self.ocean_area,
+            &mut self.ocean_used,
         );
     }
 

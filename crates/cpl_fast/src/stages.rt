@@ -6,6 +6,7 @@ ghost use Rattle.cpl_fast.specs.Stages.{HasAir, HasFlows, HasRained, IsFlown, Is
 
 use crate::air::air_lists;
 use crate::flows::list_flows;
+use crate::part_lists::{land_parts, ocean_parts};
 use crate::rain::list_rain;
 use crate::room::FastRoom;
 use crate::sums::{Sums, Taken, taken_by};
@@ -45,8 +46,22 @@ impl FastRoom {
         ensures flows { HasFlows (step_of view.now) dry self.new }
         ensures flown { IsFlown (step_of view.now) result }
     {
-        let land = list_flows(view.rates, &self.skies, &self.land, &mut self.land_flows);
-        let ocean = list_flows(view.rates, &self.skies, &self.ocean, &mut self.ocean_flows);
+        let parts = land_parts(view, &self.land_area);
+        let land = list_flows(
+            view.rates,
+            &self.skies,
+            &self.land,
+            &parts,
+            &mut self.land_flows,
+        );
+        let parts = ocean_parts(view, &self.ocean_area);
+        let ocean = list_flows(
+            view.rates,
+            &self.skies,
+            &self.ocean,
+            &parts,
+            &mut self.ocean_flows,
+        );
         Flown { land, ocean }
     }
 

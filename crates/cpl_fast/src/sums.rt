@@ -2,6 +2,7 @@
 ghost use Rattle.std.specs.Prelude.{◌≡◌, ℕ, ◌+◌, ◌*◌, ◌<◌, ◌≤◌, ◌^◌, ◌+ℤ◌, length, All};
 ghost use Rattle.cpl_fixed.specs.Amounts.{IsAmount};
 ghost use Rattle.cpl_fixed.specs.declared.limits.TheConstants.{MOST_EXCHANGE_CELLS};
+ghost use Rattle.cpl_fast.specs.Flows.{AreUsed};
 ghost use Rattle.cpl_fast.specs.Sums.{AreClear, AreSmall, IsClear, IsSmallTaken, SumsAre, after, both_taken, in_list, in_part, in_row, in_rows, IsSmall, joined, net_heat, none, nothing, of_flow, reaches, taken, with_rain, within};
 
 use crate::flows::{Flow, Tables};
@@ -60,18 +61,21 @@ impl Sums {
     }
 }
 
-// The sums over the elements of a row. Those of the area 0 aren't looked at.
+// The sums over the elements of a row. Those of the area 0 aren't looked at. Here and below what a caller doesn't read isn't summed,
+// where the call is inlined.
+#[inline]
 pub(crate) fn row_sums(tables: &Tables, flows: &[Flow], row: usize) -> Sums
     requires width { tables.now.width ≤ 6 }
     requires row { row < length tables.now.links.items }
     requires flows { length flows.now ≡ length tables.now.links.items * tables.now.width }
     requires areas { length tables.now.areas.items ≡ length flows.now }
+    requires used { AreUsed tables.now }
     requires clear { IsClear tables.now flows.now row }
     ensures value { SumsAre result (in_row flows.now (length tables.now.links.items) tables.now.width row) }
     ensures small { AreSmall tables.now.width result }
 {
     let mut sums = Sums::none();
-    for k in 0..tables.width {
+    for k in 0..tables.used(row) {
         if tables.area(row, k) != 0 {
             sums.join(&Sums::of(&flows[tables.place(row, k)]));
         }
@@ -80,6 +84,7 @@ pub(crate) fn row_sums(tables: &Tables, flows: &[Flow], row: usize) -> Sums
 }
 
 /// The sums over the elements of exchange cells in part `k`, where the list has so many rows, and the flows stand part by part.
+#[inline]
 pub fn part_sums(refs: &[XRef], flows: &[Flow], rows: usize, k: usize) -> Sums
     requires few { length refs.now ≤ MOST_EXCHANGE_CELLS }
     requires reach { All (reaches rows) refs.now }
@@ -95,11 +100,13 @@ pub fn part_sums(refs: &[XRef], flows: &[Flow], rows: usize, k: usize) -> Sums
 }
 
 // The sums over the elements of an exchange cell of either list. A row of the land has one.
+#[inline]
 fn list_sums(xref: XRef, tables: &Tables, land: &[Flow], ocean: &[Flow]) -> Sums
     requires width { tables.now.width ≤ 6 }
     requires row { within land.now (length tables.now.links.items) xref }
     requires flows { length ocean.now ≡ length tables.now.links.items * tables.now.width }
     requires areas { length tables.now.areas.items ≡ length ocean.now }
+    requires used { AreUsed tables.now }
     requires clear { AreClear tables.now ocean.now }
     ensures value { SumsAre result (in_list land.now ocean.now (length tables.now.links.items) tables.now.width xref.list xref.row) }
     ensures small { AreSmall 6 result }
@@ -112,12 +119,14 @@ fn list_sums(xref: XRef, tables: &Tables, land: &[Flow], ocean: &[Flow]) -> Sums
 }
 
 // The sums over all elements of exchange cells of both lists. The tables are the ocean's.
+#[inline]
 pub(crate) fn air_sums(refs: &[XRef], tables: &Tables, land: &[Flow], ocean: &[Flow]) -> Sums
     requires few { length refs.now ≤ MOST_EXCHANGE_CELLS }
     requires width { tables.now.width ≤ 6 }
     requires rows { All (within land.now (length tables.now.links.items)) refs.now }
     requires flows { length ocean.now ≡ length tables.now.links.items * tables.now.width }
     requires areas { length tables.now.areas.items ≡ length ocean.now }
+    requires used { AreUsed tables.now }
     requires clear { AreClear tables.now ocean.now }
     ensures value { SumsAre result (in_rows land.now ocean.now (length tables.now.links.items) tables.now.width refs.now) }
     ensures small { AreSmall (6 * length refs.now) result }

@@ -5,7 +5,7 @@ ghost use Rattle.cpl_fixed.specs.Amounts.{IsAmount, at};
 ghost use Rattle.cpl_fixed.specs.Ranges.{AreRates, IsFromℤ};
 ghost use Rattle.cpl_fixed.specs.Shares.{part_of};
 ghost use Rattle.cpl_restart.specs.FastStep.{albedo};
-ghost use Rattle.cpl_fast.specs.Flows.{IsInCell, flow_at, link_at};
+ghost use Rattle.cpl_fast.specs.Flows.{AreUsed, IsInCell, flow_at, link_at};
 ghost use Rattle.cpl_fast.specs.Places.{place_in};
 ghost use Rattle.cpl_fast.specs.Sums.{AreClear, AreStill, IsClear, IsStill};
 ghost use Rattle.cpl_fast.specs.Suns.{only_sun, sun_in};
@@ -20,12 +20,13 @@ fn row_still(tables: &Tables, row: usize, flows: &mut [Flow])
     requires row { row < length tables.now.links.items }
     requires flows { length flows.old ≡ length tables.now.links.items * tables.now.width }
     requires areas { length tables.now.areas.items ≡ length tables.now.links.items * tables.now.width }
+    requires used { AreUsed tables.now }
     requires clear { IsClear tables.now flows.old row }
     ensures row { IsStill tables.now flows.new row }
     ensures others { (r k : ℕ) → r < length tables.now.links.items → r ≢ row
         → flow_at flows.new (place_in (length tables.now.links.items) r k) ≡ flow_at flows.old (place_in (length tables.now.links.items) r k) }
 {
-    for k in 0..tables.width {
+    for k in 0..tables.used(row) {
         if tables.area(row, k) != 0 {
             flows[tables.place(row, k)] = NO_FLOW;
         }
@@ -36,6 +37,7 @@ fn row_still(tables: &Tables, row: usize, flows: &mut [Flow])
 pub(crate) fn list_still(tables: &Tables, flows: &mut [Flow])
     requires flows { length flows.old ≡ length tables.now.links.items * tables.now.width }
     requires areas { length tables.now.areas.items ≡ length tables.now.links.items * tables.now.width }
+    requires used { AreUsed tables.now }
     requires clear { AreClear tables.now flows.old }
     ensures { AreStill tables.now flows.new }
 {
@@ -85,13 +87,14 @@ fn row_suns(
     requires some { 0 < tables.now.width }
     requires flows { length flows.old ≡ length tables.now.links.items * tables.now.width }
     requires areas { length tables.now.areas.items ≡ length tables.now.links.items * tables.now.width }
+    requires used { AreUsed tables.now }
     requires clear { IsStill tables.now flows.old row }
     ensures row { (k : ℕ) → k < tables.now.width → flow_at flows.new (place_in (length tables.now.links.items) row k) ≡ only_sun (sun_in rates.now list sun area tables.now row k) }
     ensures others { (r k : ℕ) → r < length tables.now.links.items → r ≢ row
         → flow_at flows.new (place_in (length tables.now.links.items) r k) ≡ flow_at flows.old (place_in (length tables.now.links.items) r k) }
 {
     let mut portions = tables.portions(row, sun, area);
-    for k in 0..tables.width {
+    for k in 0..tables.used(row) {
         let b = tables.area(row, k);
         if b != 0 {
             let share = portions.next(b);
@@ -122,6 +125,7 @@ pub(crate) fn list_suns(
     requires some { 0 < tables.now.width }
     requires flows { length flows.old ≡ length tables.now.links.items * tables.now.width }
     requires areas { length tables.now.areas.items ≡ length tables.now.links.items * tables.now.width }
+    requires used { AreUsed tables.now }
     requires still { AreStill tables.now flows.old }
     ensures { (row k : ℕ) → row < length tables.now.links.items → k < tables.now.width
         → flow_at flows.new (place_in (length tables.now.links.items) row k)

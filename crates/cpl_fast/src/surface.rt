@@ -36,7 +36,7 @@ impl FastRoom {
     // The skins and the categories of a state take what flowed, their lists in the room meanwhile. The result is what they took from
     // the air.
     pub(crate) fn take_on_ice(&mut self, grid: &Grid, mid: &mut Mid) -> Taken
-        requires { CanTakeIce grid.now.xgrid self.old.ocean_flows.items self.old.ocean_area.items grid.now.column.categories mid.old.whole.ice_heat mid.old.skin_heat mid.old.skin_water }
+        requires { CanTakeIce grid.now.xgrid self.old.ocean_flows.items self.old.ocean_area.items self.old.ocean_used.items grid.now.column.categories mid.old.whole.ice_heat mid.old.skin_heat mid.old.skin_water }
         ensures taken { result ≡ taken_to (length mid.old.skin_heat) (λ n. ocean_at grid.now.xgrid self.old.ocean_flows.items grid.now.column.categories n) }
         ensures ice { HasTakenIce grid.now.xgrid self.old.ocean_flows.items grid.now.column.categories mid.old.whole.ice_heat mid.old.skin_heat mid.old.skin_water mid.new.whole.ice_heat mid.new.skin_heat mid.new.skin_water }
         ensures others { HasOtherIce mid.old mid.new }
@@ -49,6 +49,7 @@ impl FastRoom {
             &grid.xgrid,
             &self.ocean_flows,
             &self.ocean_area,
+            &self.ocean_used,
             grid.column.categories as usize,
             &mut self.ice_heat,
             &mut self.skin_heat,

@@ -22,7 +22,7 @@ rows_stay flows other rows width row within same number =
 
 pub row_flows-requires-clause-can : goal.row_flows-requires-clause-can
 row_flows-requires-clause-can c k l =
-    subst (λ (link : Link). CanFlow (sky_at c.args.skies.now link.air) c.args.tables.now c.loop-row.row k) (sym c.link.ensures) (c.requires.can c.loop-row.row k (omega arith) l)
+    subst (λ (link : Link). CanFlow (sky_at c.args.skies.now link.air) c.args.tables.now c.args.parts.now c.loop-row.row k) (sym c.link.ensures) (c.requires.can c.loop-row.row k (omega arith) l)
 
 pub row_flows-requires-clause-clear : goal.row_flows-requires-clause-clear
 row_flows-requires-clause-clear c k l empty =
@@ -35,7 +35,7 @@ row_sums-requires-clause-clear c k l empty =
     let tables = c.args.tables.now in
     let row = c.loop-row.row in
     let clear = c.loop-row.invariant.behind row k (omega arith) (omega arith) ∙ c.requires.clear row (omega arith) k l empty in
-    c.row_flows.ensures.row k l ∙ none_again _ _ tables c.loop-row.flows row k empty clear
+    c.row_flows.ensures.row k l ∙ none_again _ _ tables c.args.parts.now c.loop-row.flows row k empty clear
 
 pub join-requires-clause-small : goal.join-requires-clause-small
 join-requires-clause-small c = smaller (6 * c.loop-row.row) (2 ^ 30) c.loop-row.sums (omega arith) c.loop-row.invariant.small
@@ -52,13 +52,13 @@ loop-row-preserved c =
     let width = tables.width in
     let inv = c.loop-row.invariant in
     let next = c.row_flows.new.flows in
-    let f : ℕ → ℕ → Flow = λ r k. flow_again c.args.rates.now (sky_of skies tables r) tables c.args.flows.now r k in
+    let f : ℕ → ℕ → Flow = λ r k. flow_again c.args.rates.now (sky_of skies tables r) tables c.args.parts.now c.args.flows.now r k in
     let g : (Flow → ℤ) → ℕ → ℤ = λ number r. in_row next rows width r number in
     let so_far = totals_same c.loop-row.sums (λ number. sum_to (λ r. in_row c.loop-row.flows rows width r number) row) (λ number. sum_to (g number) row)
     (rows_stay next c.loop-row.flows rows width row (omega arith) c.row_flows.ensures.others) inv.sums in
     record {
       done = items_more_by (λ r k x. x ≡ f r k) c.loop-row.flows next rows width row no_flow (omega arith) inv.done
-          (λ k l. c.row_flows.ensures.row k l ∙ (λ i. flow_in c.args.rates.now (sky_at skies (c.link.ensures i).air) tables row k (inv.behind row k (omega arith) (omega arith) i).sun))
+          (λ k l. c.row_flows.ensures.row k l ∙ (λ i. flow_in c.args.rates.now (sky_at skies (c.link.ensures i).air) tables c.args.parts.now row k (inv.behind row k (omega arith) (omega arith) i).sun))
           c.row_flows.ensures.others;
       behind = λ r k h l. c.row_flows.ensures.others r k l (omega arith) ∙ inv.behind r k (omega arith) l;
       sums = totals_more c.loop-row.sums c.row_sums.result c.join.new.self g (λ number. g number row) row c.join.ensures.value so_far c.row_sums.ensures.value (λ number i. g number row);

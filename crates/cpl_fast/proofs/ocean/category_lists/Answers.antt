@@ -1,20 +1,25 @@
-use Rattle.std.proofs.Common.{◌≡◌, ◌∙◌, sym, ap, subst, ℕ, ◌+◌, ◌*◌, ◌^◌, ◌<◌, ◌≤◌, arith, to_z, of_z, w64, length, List}
+use Rattle.std.proofs.Common.{◌≡◌, ◌∙◌, sym, ap, subst, ℕ, ◌+◌, ◌-◌, ◌*◌, ◌^◌, ◌<◌, ◌≤◌, arith, to_z, of_z, w64, length, List, inl, inr}
 use Rattle.std.specs.Prelude.{ℤ, pos, ◌+ℤ◌}
+use Rattle.std.proofs.lemmas.Bool.{cases_lt}
 use Rattle.std.proofs.lemmas.Int.{ints}
 use Rattle.cpl_fixed.specs.Amounts.{IsAmount, at}
 use Rattle.cpl_diffusion.proofs.Sums.{sum_to, total_range}
 use Rattle.cpl_mosaic.specs.Contacts.{cells_of}
+use Rattle.cpl_xgrid.specs.Lists.{XGridLists}
 use Rattle.cpl_xgrid.specs.declared.parts.XRef.{XRef}
+use Rattle.cpl_fast.specs.declared.flows.Flow.{Flow}
 use Rattle.cpl_fast.specs.declared.ocean.IceTaken.{IceTaken}
 use Rattle.cpl_fast.specs.declared.sums.Sums.{Sums}
-use Rattle.cpl_fast.specs.Sums.{AreSmall, IsSmall}
-use Rattle.cpl_fast.specs.Surfaces.{category_gain, ice_of, ocean_sums}
+use Rattle.cpl_fast.specs.Places.{IsEnd, place_in}
+use Rattle.cpl_fast.specs.Sums.{AreSmall, IsSmall, none}
+use Rattle.cpl_fast.specs.Surfaces.{IsStill, category_gain, ice_of, ocean_sums}
+use Rattle.cpl_fast.proofs.Ends.{sum_to_end}
 use Rattle.cpl_fast.proofs.Made.{sums_here}
 use Rattle.cpl_fast.proofs.Parts.{amount_passed}
 use Rattle.cpl_fast.proofs.Places.{ahead_stay, others_stay, place_within, row_more, row_passed}
 use Rattle.cpl_fast.proofs.Small.{passed, plus_passed, plus_small, smaller, sum_fits, sum_to_more, wider}
 use Rattle.cpl_fast.proofs.ocean.category_lists.Goals as goal
-use Rattle.cpl_fast.proofs.ocean.category_lists.Goals.{then-area-n-ne0, else-area-n-ne0}
+use Rattle.cpl_fast.proofs.ocean.category_lists.Goals.{then-area-place_in-ne0, else-area-place_in-ne0}
 
 -- the sums over a cell's exchange cells are small
 few_small : (refs other : List XRef) (sums : Sums) → refs ≡ other → length other ≤ 2 ^ 20 → AreSmall (length refs) sums → AreSmall (2 ^ 20) sums
@@ -72,8 +77,8 @@ overflow_add-ice c =
     let small = few_small c.args.refs.now _ c.part_sums-sums.result c.requires.refs c.requires.rows.few c.part_sums-sums.ensures.small in
     sum_fits c.loop-k.ice.rain c.part_sums-sums.result.rain (more_fits c.loop-k.k c.loop-k.ice.rain (omega arith) c.loop-k.invariant.small_rain) (wider (2 ^ 20) (2 ^ 30) c.part_sums-sums.result.rain (omega arith) small.rain)
 
-pub overflow_add-ice-then-area-n-ne0 : goal.overflow_add-ice-then-area-n-ne0
-overflow_add-ice-then-area-n-ne0 c =
+pub overflow_add-ice-then-area-place_in-ne0 : goal.overflow_add-ice-then-area-place_in-ne0
+overflow_add-ice-then-area-place_in-ne0 c =
     let small = few_small c.args.refs.now _ c.part_sums-sums.result c.requires.refs c.requires.rows.few c.part_sums-sums.ensures.small in
     sum_fits c.loop-k.ice.heat c.part_sums-sums.result.heat (more_fits c.loop-k.k c.loop-k.ice.heat (omega arith) c.loop-k.invariant.small_heat) (wider (2 ^ 20) (2 ^ 30) c.part_sums-sums.result.heat (omega arith) small.heat)
 
@@ -89,8 +94,8 @@ loop-k-preserved c =
     let rain_more = sum_to_more (λ j. (ocean_sums xgrid flows n (j + 1)).rain) k in
     let heat_more = sum_to_more (λ j. (ocean_sums xgrid flows n (j + 1)).heat) k in
     let old = inv.ahead (n * categories + k) (omega arith) in
-    elim c.if-area-n-ne0.branch [
-      | then-area-n-ne0 w ↦
+    elim c.if-area-place_in-ne0.branch [
+      | then-area-place_in-ne0 w ↦
           let sums = w.part_sums-sums.result in
           let small = few_small c.args.refs.now _ sums c.requires.refs c.requires.rows.few w.part_sums-sums.ensures.small in
           let is = sums_here xgrid flows n (k + 1) c.args.refs.now c.rows-rows.result.now sums c.rows-rows.ensures c.requires.refs w.part_sums-sums.ensures.value in
@@ -113,10 +118,10 @@ loop-k-preserved c =
             small_rain = subst (IsSmall ((k + 1) * 2 ^ 20)) (sym rain) (more_small c.loop-k.ice.rain sums.rain k (omega arith) inv.small_rain small.rain);
             small_heat = subst (IsSmall ((k + 1) * 2 ^ 20)) (sym heat) (more_small c.loop-k.ice.heat sums.heat k (omega arith) inv.small_heat small.heat);
           }
-      | else-area-n-ne0 w ↦
-          let place : n * (categories + 1) + (k + 1) ≡ n * (categories + 1) + k + 1 = omega arith in
-          let empty : at c.args.area.now (n * (categories + 1) + k + 1) ≡ pos 0 = omega (arith, ints, w.if-area-n-ne0.false) in
-          let nothing = c.requires.still (k + 1) (omega arith) (ap (at c.args.area.now) place ∙ empty) in
+      | else-area-place_in-ne0 w ↦
+          let place : c.place_in.result ≡ place_in (cells_of xgrid.ocean) n (k + 1) = c.place_in.ensures ∙ ap (λ (cells : ℕ). place_in cells n (k + 1)) c.requires.cells in
+          let empty : at c.args.area.now c.place_in.result ≡ pos 0 = omega (arith, ints, w.if-area-place_in-ne0.false) in
+          let nothing = c.requires.still (k + 1) (omega arith) (ap (at c.args.area.now) (sym place) ∙ empty) in
           let gain : category_gain xgrid flows n k ≡ pos 0 = (λ i. (nothing i).heat +ℤ (nothing i).sun) in
           let rain_none = ap (λ (s : Sums). s.rain) nothing in
           let heat_none = ap (λ (s : Sums). s.heat) nothing in
@@ -134,13 +139,40 @@ loop-k-preserved c =
           }
     ]
 
+-- nothing flows to a category that isn't looked at
+behind : (xgrid : XGridLists) (flows : List Flow) (area : List ℤ) (cells categories n used : ℕ) → cells ≡ cells_of xgrid.ocean → IsEnd area cells (categories + 1) n used → IsStill xgrid flows area categories n
+    → (k : ℕ) → used - 1 ≤ k → k < categories → ocean_sums xgrid flows n (k + 1) ≡ none
+behind xgrid flows area cells categories n used same end still k past l =
+    still (k + 1) (omega (arith, l)) (sym (ap (λ (count : ℕ). at area (place_in count n (k + 1))) same) ∙ end.rest (k + 1) (omega (arith, past)) (omega (arith, l)))
+
+pub returns-clause-heat : goal.returns-clause-heat
+returns-clause-heat c k l =
+    let categories = c.args.categories in
+    let n = c.args.n in
+    let xgrid = c.args.xgrid.now in
+    let flows = c.args.flows.now in
+    let inv = c.loop-k.invariant in
+    elim (cases_lt k c.loop-k.k) [
+      | inl here ↦ inv.heat k here
+      | inr past ↦
+          let nothing = behind xgrid flows c.args.area.now c.args.cells categories n c.args.used c.requires.cells c.requires.used c.requires.still k (omega arith) l in
+          let gain : category_gain xgrid flows n k ≡ pos 0 = (λ i. (nothing i).heat +ℤ (nothing i).sun) in
+          let old = inv.ahead (n * categories + k) (omega (arith, past)) in
+          omega (arith, ints, old, gain)
+    ]
+
 pub returns-clause-value : goal.returns-clause-value
 unfolding ice_of
 returns-clause-value c =
     let categories = c.args.categories in
-    let n : c.loop-k.k ≡ categories = omega arith in
-    let f : ℕ → ℤ = λ j. (ocean_sums c.args.xgrid.now c.args.flows.now c.args.n (j + 1)).rain in
-    let g : ℕ → ℤ = λ j. (ocean_sums c.args.xgrid.now c.args.flows.now c.args.n (j + 1)).heat in
-    let rain = c.loop-k.invariant.rain ∙ ap (sum_to f) n ∙ sym (total_range f categories) in
-    let heat = c.loop-k.invariant.taken ∙ ap (sum_to g) n ∙ sym (total_range g categories) in
+    let xgrid = c.args.xgrid.now in
+    let flows = c.args.flows.now in
+    let n = c.args.n in
+    let most : c.loop-k.k ≤ categories = omega arith in
+    let f : ℕ → ℤ = λ j. (ocean_sums xgrid flows n (j + 1)).rain in
+    let g : ℕ → ℤ = λ j. (ocean_sums xgrid flows n (j + 1)).heat in
+    let nothing : (k : ℕ) → c.loop-k.k ≤ k → k < categories → ocean_sums xgrid flows n (k + 1) ≡ none =
+    (λ k past l. behind xgrid flows c.args.area.now c.args.cells categories n c.args.used c.requires.cells c.requires.used c.requires.still k (omega arith) l) in
+    let rain = c.loop-k.invariant.rain ∙ sum_to_end f c.loop-k.k categories most (λ k past l. ap (λ (s : Sums). s.rain) (nothing k past l)) ∙ sym (total_range f categories) in
+    let heat = c.loop-k.invariant.taken ∙ sum_to_end g c.loop-k.k categories most (λ k past l. ap (λ (s : Sums). s.heat) (nothing k past l)) ∙ sym (total_range g categories) in
     λ i. record { rain = rain i; heat = heat i }

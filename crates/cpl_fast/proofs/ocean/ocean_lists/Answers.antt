@@ -2,6 +2,7 @@ use Rattle.std.proofs.Common.{◌≡◌, ◌∙◌, refl, sym, ap, ℕ, ◌+◌,
 use Rattle.std.specs.Prelude.{ℤ, pos, ◌+ℤ◌}
 use Rattle.std.proofs.lemmas.Int.{ints}
 use Rattle.cpl_fixed.specs.Amounts.{IsAmount, at}
+use Rattle.cpl_mosaic.specs.Contacts.{cells_of}
 use Rattle.cpl_xgrid.specs.Lists.{XGridLists}
 use Rattle.cpl_xgrid.specs.Rows.{rows_of}
 use Rattle.cpl_xgrid.specs.declared.parts.Surface.TheVariants.{Ocean}
@@ -11,6 +12,7 @@ use Rattle.cpl_fast.specs.declared.ocean.IceTaken.{IceTaken}
 use Rattle.cpl_fast.specs.declared.sums.After.{After}
 use Rattle.cpl_fast.specs.declared.sums.Sums.{Sums}
 use Rattle.cpl_fast.specs.declared.sums.Taken.{Taken}
+use Rattle.cpl_fast.specs.Places.{place_in}
 use Rattle.cpl_fast.specs.Surfaces.{category_gain, ice_of, ocean_at, ocean_sums, refs_on, skin_at, skin_of}
 use Rattle.cpl_fast.specs.Sums.{IsSmall, IsSmallTaken, after, both_taken, sums_in, taken, with_rain}
 use Rattle.cpl_fast.proofs.Made.{one_more}
@@ -48,8 +50,8 @@ open_sums-sums-requires-clause-still c e =
     let xgrid = c.args.xgrid.now in
     let flows = c.args.flows.now in
     let refs = c.cells_of_ocean-refs.result.now in
-    let first : n * (c.args.categories + 1) + 0 ≡ n * (c.args.categories + 1) = omega arith in
-    let empty : at c.args.area.now (n * (c.args.categories + 1)) ≡ pos 0 = omega (arith, ints, e) in
+    let first : place_in (cells_of xgrid.ocean) n 0 ≡ n = omega arith in
+    let empty : at c.args.area.now n ≡ pos 0 = omega (arith, ints, e) in
     let still = c.requires.still n (omega arith) 0 (omega arith) (ap (at c.args.area.now) first ∙ empty) in
     open_is xgrid flows n refs (sums_in flows (length (rows_of xgrid Ocean)) 0 refs) c.cells_of_ocean-refs.ensures refl ∙ still
 
@@ -90,6 +92,9 @@ takes_all xgrid flows categories n heat water all skin with_skin with_ice h is f
     let b : all.water +ℤ (skin_of xgrid flows categories n).water +ℤ pos 0 ≡ all.water +ℤ ((skin_of xgrid flows categories n).water +ℤ pos 0) = omega (arith, ints) in
     λ i. record { heat = a i; water = b i }) in
     second ∙ (λ i. both_taken ((first ∙ ap (both_taken all) t) i) (record { heat = ice i; water = pos 0 })) ∙ split
+
+pub add-requires-clause-small : goal.add-requires-clause-small
+add-requires-clause-small c = taken_smaller (c.loop-n.n * 2 ^ 45) (2 ^ 63) c.loop-n.all (omega arith) c.loop-n.invariant.small
 
 pub add-requires-in-loop-n-clause-small : goal.add-requires-in-loop-n-clause-small
 add-requires-in-loop-n-clause-small c =

@@ -5,12 +5,13 @@ use Rattle.std.proofs.lemmas.Int.{ints}
 use Rattle.cpl_fixed.specs.Amounts.{IsAmount}
 use Rattle.cpl_fixed.specs.Shares.{share}
 use Rattle.cpl_diffusion.proofs.Sums.{sum_to}
-use Rattle.cpl_laws.proofs.Sums.{total_range}
 use Rattle.cpl_fast.specs.declared.flows.Flow.{Flow}
+use Rattle.cpl_fast.specs.declared.flows.Tables.{Tables}
 use Rattle.cpl_fast.specs.declared.portions.Portions.{Portions}
 use Rattle.cpl_fast.specs.Flows.{ArePortions, area_in, before_in, flow_at, no_flow}
 use Rattle.cpl_fast.specs.Rain.{rain_in, rained_on}
 use Rattle.cpl_fast.specs.Sums.{IsSmall}
+use Rattle.cpl_fast.proofs.Ends.{entries_behind, row_end, total_entries}
 use Rattle.cpl_fast.proofs.Nothing.{rained_clear}
 use Rattle.cpl_fast.proofs.Parts.{amount_passed, area_read, share_none}
 use Rattle.cpl_fast.specs.Places.{place_in}
@@ -29,6 +30,12 @@ rain_added : (k : ℕ) (sum wide share : ℤ) → IsSmall k sum → k ≤ 6 → 
     → to_z w128 (of_z w128 (sum +ℤ to_z w128 (of_z w128 wide))) ≡ sum +ℤ to_z w64 (of_z w64 share)
 rain_added k sum wide share small few h e = let p = small.0 in let q = small.1 in let a = h.0 in let b = h.1 in omega (arith, ints)
 
+-- no rain on an element of the area 0
+no_rain_in : (rain area : ℤ) (tables : Tables) (row k : ℕ) → area_in tables row k ≡ pos 0 → rain_in rain area tables row k ≡ pos 0
+no_rain_in rain area tables row k empty =
+    let from = before_in tables row k in
+    (λ i. share rain from (from +ℤ empty i) area) ∙ share_none rain from area
+
 -- and no share more
 plus_none : (sum x : ℤ) → x ≡ pos 0 → sum ≡ sum +ℤ x
 plus_none sum x e = omega (arith, ints)
@@ -39,16 +46,39 @@ portions-portions-requires-clause-cell c = cell_passed c.args.area c.args.tables
 pub returns-clause-rain : goal.returns-clause-rain
 returns-clause-rain c =
     let tables = c.args.tables.now in
-    let area = area_passed c.args.area c.args.tables.now c.args.row 0 (c.requires.can 0 c.requires.some) in
+    let rows = length tables.links.items in
+    let row = c.args.row in
+    let area = area_passed c.args.area tables row 0 (c.requires.can 0 c.requires.some) in
     let rain = amount_passed c.args.rain c.requires.rain in
-    let n : c.loop-k.k ≡ tables.width = omega arith in
-    c.loop-k.invariant.sum ∙ (λ i. sum_to (rain_in (rain i) (area i) tables c.args.row) (n i)) ∙ sym (total_range (rain_in c.args.rain c.args.area tables c.args.row) tables.width)
+    let n : c.loop-k.k ≡ c.used-k-end.result = omega arith in
+    let end = row_end tables c.requires.used row c.requires.row c.used-k-end.result c.used-k-end.ensures.value in
+    c.loop-k.invariant.sum ∙ (λ i. sum_to (rain_in (rain i) (area i) tables row) (n i))
+    ∙ total_entries tables.areas.items rows tables.width row c.used-k-end.result end (rain_in c.args.rain c.args.area tables row) (λ k l empty. no_rain_in c.args.rain c.args.area tables row k empty)
+
+pub returns-clause-small : goal.returns-clause-small
+returns-clause-small c =
+    let most = c.used-k-end.ensures.most in
+    let width = c.requires.width in
+    wider c.loop-k.k 6 _ (omega (arith, most, width)) c.loop-k.invariant.small
 
 pub returns-clause-row : goal.returns-clause-row
-returns-clause-row c k l =
-    let area = area_passed c.args.area c.args.tables.now c.args.row 0 (c.requires.can 0 c.requires.some) in
+returns-clause-row c =
+    let tables = c.args.tables.now in
+    let rows = length tables.links.items in
+    let row = c.args.row in
+    let area = area_passed c.args.area tables row 0 (c.requires.can 0 c.requires.some) in
     let rain = amount_passed c.args.rain c.requires.rain in
-    c.loop-k.invariant.row k (omega arith) ∙ (λ i. rained_on (rain i) (area i) c.args.tables.now c.args.flows.now c.args.row k)
+    let inv = c.loop-k.invariant in
+    let n : c.loop-k.k ≡ c.used-k-end.result = omega arith in
+    let end = row_end tables c.requires.used row c.requires.row c.used-k-end.result c.used-k-end.ensures.value in
+    entries_behind tables.areas.items rows tables.width row c.used-k-end.result end (λ j. flow_at c.loop-k.flows (place_in rows row j) ≡ rained_on c.args.rain c.args.area tables c.args.flows.now row j)
+    (λ j l. inv.row j (omega (arith, n, l)) ∙ (λ i. rained_on (rain i) (area i) tables c.args.flows.now row j))
+    (λ j behind l empty. (
+    let clear = c.requires.clear j l empty in
+    inv.ahead j (omega (arith, n, behind)) ∙ clear ∙ sym (rained_clear c.args.rain c.args.area tables c.args.flows.now row j empty clear)))
+
+pub next-share-requires-clause-weight : goal.next-share-requires-clause-weight
+next-share-requires-clause-weight c = let least = (c.requires.can c.loop-k.k (omega arith)).least in omega (arith, ints, c.area-b.ensures, least)
 
 pub next-share-requires-clause-within : goal.next-share-requires-clause-within
 next-share-requires-clause-within c =
@@ -103,7 +133,7 @@ loop-k-preserved c =
           let clear = c.requires.clear k (omega arith) empty in
           let more = before_more tables row k in
           let from = inv.from in
-          let none : rain_in rain area tables row k ≡ pos 0 = (λ i. share rain (before_in tables row k) (before_in tables row k +ℤ empty i) area) ∙ share_none rain (before_in tables row k) area in
+          let none = no_rain_in rain area tables row k empty in
           let stays : before_in tables row k ≡ before_in tables row (k + 1) = omega (arith, ints, empty, more) in
           record {
             portions = subst ArePortions (sym w.portions-is) inv.portions;

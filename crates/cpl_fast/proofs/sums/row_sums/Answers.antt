@@ -1,14 +1,14 @@
-use Rattle.std.proofs.Common.{◌≡◌, ◌∙◌, sym, ap, subst, ◌+◌, ◌^◌, ℕ, arith, length}
+use Rattle.std.proofs.Common.{◌≡◌, ◌∙◌, refl, sym, ap, subst, ◌+◌, ◌^◌, ℕ, arith, length}
 use Rattle.std.specs.Prelude.{ℤ, pos, ◌+ℤ◌}
 use Rattle.std.proofs.lemmas.Int.{ints}
 use Rattle.cpl_diffusion.proofs.Sums.{sum_to}
-use Rattle.cpl_laws.proofs.Sums.{total_range}
 use Rattle.cpl_fast.specs.declared.flows.Flow.{Flow}
 use Rattle.cpl_fast.specs.declared.sums.Sums.{Sums}
 use Rattle.cpl_fast.specs.Flows.{area_in, flow_at, no_flow}
 use Rattle.cpl_fast.specs.Places.{place_in}
-use Rattle.cpl_fast.specs.Sums.{AreSmall, SumsAre, in_row, joined, none}
-use Rattle.cpl_fast.proofs.Small.{smaller, totals_more, totals_of_flow, totals_same}
+use Rattle.cpl_fast.specs.Sums.{AreSmall, SumsAre, joined, none}
+use Rattle.cpl_fast.proofs.Ends.{row_end, total_entries}
+use Rattle.cpl_fast.proofs.Small.{smaller, totals_more, totals_of_flow}
 use Rattle.cpl_fast.proofs.sums.row_sums.Goals as goal
 use Rattle.cpl_fast.proofs.sums.row_sums.Goals.{then-area-ne0, else-area-ne0}
 
@@ -29,10 +29,24 @@ join-requires-clause-other c = smaller 1 (2 ^ 30) c.of.result (omega arith) c.of
 
 pub returns-clause-value : goal.returns-clause-value
 returns-clause-value c =
-    let f : (Flow → ℤ) → ℕ → ℤ = λ number j. number (flow_at c.args.flows.now (place_in (length c.args.tables.now.links.items) c.args.row j)) in
-    let n : c.loop-k.k ≡ c.args.tables.now.width = omega arith in
-    totals_same c.loop-k.sums (λ number. sum_to (f number) c.loop-k.k) (in_row c.args.flows.now (length c.args.tables.now.links.items) c.args.tables.now.width c.args.row)
-    (λ number. ap (sum_to (f number)) n ∙ sym (total_range (f number) c.args.tables.now.width)) c.loop-k.invariant.sums
+    let tables = c.args.tables.now in
+    let row = c.args.row in
+    let rows = length tables.links.items in
+    let f : (Flow → ℤ) → ℕ → ℤ = λ number j. number (flow_at c.args.flows.now (place_in rows row j)) in
+    let n : c.loop-k.k ≡ c.used-k-end.result = omega arith in
+    let end = row_end tables c.requires.used row c.requires.row c.used-k-end.result c.used-k-end.ensures.value in
+    let total = λ (number : Flow → ℤ) (none : number no_flow ≡ pos 0).
+    ap (sum_to (f number)) n ∙ total_entries tables.areas.items rows tables.width row c.used-k-end.result end (f number) (λ k l empty. ap number (c.requires.clear k l empty) ∙ none) in
+    let sums = c.loop-k.invariant.sums in
+    record {
+      heat = sums.heat ∙ total (λ (flow : Flow). flow.heat) refl;
+      water = sums.water ∙ total (λ (flow : Flow). flow.water) refl;
+      sun = sums.sun ∙ total (λ (flow : Flow). flow.sun) refl;
+      rain = sums.rain ∙ total (λ (flow : Flow). flow.rain) refl;
+    }
+
+pub returns-clause-small : goal.returns-clause-small
+returns-clause-small c = smaller c.loop-k.k c.args.tables.now.width c.loop-k.sums (omega (arith, c.used-k-end.ensures.most)) c.loop-k.invariant.small
 
 pub loop-k-preserved : goal.loop-k-preserved
 loop-k-preserved c =

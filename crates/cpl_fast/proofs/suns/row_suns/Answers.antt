@@ -1,5 +1,5 @@
 use Rattle.std.proofs.Common.{◌≡◌, ◌≢◌, ◌∙◌, sym, ap, subst, ℕ, ◌+◌, ◌<◌, ◌≤◌, arith, to_z, of_z, w64, slice_set, length, List}
-use Rattle.std.specs.Prelude.{pos, ◌+ℤ◌, ◌-ℤ◌}
+use Rattle.std.specs.Prelude.{ℤ, pos, ◌+ℤ◌, ◌-ℤ◌}
 use Rattle.std.proofs.lemmas.Int.{ints}
 use Rattle.cpl_fixed.specs.Shares.{part_of, share}
 use Rattle.cpl_restart.specs.FastStep.{albedo}
@@ -8,6 +8,7 @@ use Rattle.cpl_fast.specs.declared.portions.Portions.{Portions}
 use Rattle.cpl_fast.specs.Flows.{ArePortions, area_in, before_in, flow_at, no_flow}
 use Rattle.cpl_fast.specs.Places.{place_in}
 use Rattle.cpl_fast.specs.Suns.{only_sun, sun_in}
+use Rattle.cpl_fast.proofs.Ends.{entries_behind, row_end}
 use Rattle.cpl_fast.proofs.Nothing.{no_sun_in}
 use Rattle.cpl_fast.proofs.Parts.{amount_passed, area_read}
 use Rattle.cpl_fast.proofs.Placed.{ahead_stays, entry_more_by, entry_set_by, others_stand, entry_within}
@@ -22,10 +23,19 @@ pub next-share-requires-clause-weight : goal.next-share-requires-clause-weight
 next-share-requires-clause-weight c = let least = (c.requires.can c.loop-k.k (omega arith)).least in omega (arith, ints, c.area-b.ensures, least)
 
 pub returns-clause-row : goal.returns-clause-row
-returns-clause-row c k l =
-    let area = area_passed c.args.area c.args.tables.now c.args.row 0 (c.requires.can 0 c.requires.some) in
+returns-clause-row c =
+    let tables = c.args.tables.now in
+    let rows = length tables.links.items in
+    let row = c.args.row in
+    let area = area_passed c.args.area tables row 0 (c.requires.can 0 c.requires.some) in
     let sun = amount_passed c.args.sun c.requires.sun in
-    c.loop-k.invariant.row k (omega arith) ∙ (λ i. only_sun (sun_in c.args.rates.now c.args.list (sun i) (area i) c.args.tables.now c.args.row k))
+    let inv = c.loop-k.invariant in
+    let own = λ (x a : ℤ) (j : ℕ). only_sun (sun_in c.args.rates.now c.args.list x a tables row j) in
+    let n : c.loop-k.k ≡ c.used-k-end.result = omega arith in
+    let end = row_end tables c.requires.used row c.requires.row c.used-k-end.result c.used-k-end.ensures.value in
+    entries_behind tables.areas.items rows tables.width row c.used-k-end.result end (λ j. flow_at c.loop-k.flows (place_in rows row j) ≡ own c.args.sun c.args.area j)
+    (λ j l. inv.row j (omega (arith, n, l)) ∙ (λ i. own (sun i) (area i) j))
+    (λ j behind l empty. inv.ahead j (omega (arith, n, behind)) ∙ c.requires.clear j l ∙ (λ i. only_sun (sym (no_sun_in c.args.rates.now c.args.list c.args.sun c.args.area tables row j empty) i)))
 
 pub next-share-requires-clause-within : goal.next-share-requires-clause-within
 next-share-requires-clause-within c =

@@ -1,9 +1,10 @@
-use Rattle.std.proofs.Common.{◌≡◌, ℕ, ◌<◌, ◌+◌, ◌*◌, length, take}
+use Rattle.std.proofs.Common.{◌≡◌, ◌≢◌, ℕ, ◌<◌, ◌+◌, length, take}
 use Rattle.cpl_fixed.specs.Amounts.{at}
 use Rattle.cpl_fixed.specs.Shares.{share}
 use Rattle.cpl_fixed.specs.Totals.{total_of}
 use Rattle.cpl_fixed.specs.declared.limits.TheConstants.{PARTS}
 use Rattle.cpl_fast.specs.Flows.{ArePortions}
+use Rattle.cpl_fast.specs.Places.{IsEnd, place_in}
 use Rattle.cpl_fast.proofs.tables.fill_row_areas.Given as goal
 
 abbrev pub invariant-loop-k : goal.invariant-loop-k
@@ -13,6 +14,7 @@ invariant-loop-k l = record {
   whole : l.portions.whole ≡ PARTS;
   from : l.portions.from ≡ total_of (take l.k l.parts);
   count : length l.areas ≡ length l.fn.areas;
-  row : (j : ℕ) → j < l.k → at l.areas (l.row * l.width + j) ≡ share l.row_area (total_of (take j l.parts)) (total_of (take (j + 1) l.parts)) PARTS;
-  others : (i : ℕ) → i < l.row * l.width → at l.areas i ≡ at l.fn.areas i;
+  own : (j : ℕ) → j < l.k → at l.areas (place_in l.rows l.row j) ≡ share l.row_area (total_of (take j l.parts)) (total_of (take (j + 1) l.parts)) PARTS;
+  others : (r j : ℕ) → r < l.rows → r ≢ l.row → at l.areas (place_in l.rows r j) ≡ at l.fn.areas (place_in l.rows r j);
+  used : IsEnd l.areas l.rows l.k l.row l.used;
 }

@@ -1,23 +1,14 @@
-use Rattle.std.proofs.Common.{◌∙◌, sym, ap, subst, arith, ◌<◌, List}
-use Rattle.std.specs.Prelude.{pos}
-use Rattle.cpl_xgrid.specs.declared.parts.XRef.{XRef}
-use Rattle.cpl_xgrid.specs.declared.parts.Surface.TheVariants.{Land}
+use Rattle.std.proofs.Common.{arith, ◌<◌}
 use Rattle.cpl_mosaic.specs.Contacts.{cells_of}
-use Rattle.cpl_fast.specs.Tables.{CanSumAreas, area_over, cells_on}
-use Rattle.cpl_fast.proofs.Places.{rows_more}
+use Rattle.cpl_fast.proofs.Making.{can_sum_read}
 use Rattle.cpl_fast.proofs.tables.sum_land_areas.Goals as goal
 
-pub fill_cell_areas-requires-clause-can : goal.fill_cell_areas-requires-clause-can
-fill_cell_areas-requires-clause-can c =
-    let n = c.loop-n.n in
-    let l : n < cells_of c.args.xgrid.now.land = omega (arith, c.loop-n-test.true) in
-    subst (λ (refs : List XRef). CanSumAreas refs c.args.areas.now 1) (sym c.cells_of_land.ensures) (c.requires.can n l)
+pub part_area-requires-clause-reach : goal.part_area-requires-clause-reach
+part_area-requires-clause-reach c =
+    let l : c.loop-n.n < cells_of c.args.xgrid.now.land = omega (arith, c.loop-n-test.true) in
+    (can_sum_read c.cells_of_land.result.now _ c.rows-rows.result.now _ c.args.areas.now 1 c.cells_of_land.ensures c.rows-rows.ensures (c.requires.can c.loop-n.n l)).reach
 
-pub loop-n-preserved : goal.loop-n-preserved
-loop-n-preserved c = (
-  c.fill_cell_areas.ensures.count ∙ c.loop-n.invariant.0,
-  rows_more (λ n k. area_over (cells_on c.args.xgrid.now Land n) c.args.areas.now 1 k)
-      c.loop-n.sums c.fill_cell_areas.new.sums 1 c.loop-n.n (pos 0) c.loop-n.invariant.1
-      (λ k l. c.fill_cell_areas.ensures.value k l ∙ ap (λ (refs : List XRef). area_over refs c.args.areas.now 1 k) c.cells_of_land.ensures)
-      c.fill_cell_areas.ensures.others,
-)
+pub part_area-requires-clause-most : goal.part_area-requires-clause-most
+part_area-requires-clause-most c =
+    let l : c.loop-n.n < cells_of c.args.xgrid.now.land = omega (arith, c.loop-n-test.true) in
+    (can_sum_read c.cells_of_land.result.now _ c.rows-rows.result.now _ c.args.areas.now 1 c.cells_of_land.ensures c.rows-rows.ensures (c.requires.can c.loop-n.n l)).most 0 (omega arith)

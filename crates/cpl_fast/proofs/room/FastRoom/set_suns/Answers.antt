@@ -120,6 +120,7 @@ returns c =
         ocean = is.ocean;
         land_area = is.land_area;
         ocean_area = is.ocean_area;
+        ocean_used = is.ocean_used;
         land_flows = ap length land_is ∙ land_long;
         ocean_flows = ap length ocean_is ∙ ocean_long;
         skies = is.skies;
