@@ -6,8 +6,9 @@
 # Where the program isn't built yet for these sources, all of it is proved and built first. What that says goes to
 # standard error. The exit status is the program's, and 125 where there is no program to run.
 #
-# The program's large lists get large pages where the system gives them to those that ask: GLIBC_TUNABLES asks the C
-# library of Linux for that, and changes no result. What is said there of glibc.malloc.hugetlb already stays.
+# The program's lists get large pages where the system gives them to those that ask: GLIBC_TUNABLES asks the C library of
+# Linux for that, and not to give lists of 128 kB and more memory of their own, where those below 2 MB would have small
+# pages. It changes no result. Where glibc.malloc.hugetlb is said there already, all stays as it is said.
 set -u
 
 top=$(dirname "$(readlink -f "${BASH_SOURCE[0]}")")
@@ -48,6 +49,6 @@ mkdir -p "$out" || exit 125
 (flock 9 && build_where_needed) 9>"$out/lock" || exit 125
 case ${GLIBC_TUNABLES-} in
 *glibc.malloc.hugetlb=*) ;;
-*) export GLIBC_TUNABLES="${GLIBC_TUNABLES:+$GLIBC_TUNABLES:}glibc.malloc.hugetlb=1" ;;
+*) export GLIBC_TUNABLES="${GLIBC_TUNABLES:+$GLIBC_TUNABLES:}glibc.malloc.hugetlb=1:glibc.malloc.mmap_threshold=1073741824" ;;
 esac
 exec "$program" "$@"

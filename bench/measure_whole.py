@@ -13,6 +13,9 @@ import subprocess
 import sys
 
 RUNS = 9
+# rounds of the comparison by size, and the runs of each size in one
+ROUNDS = 25
+RUNS_OF_ROUND = {"32": 4, "48": 2, "64": 1}
 # name of the input, hours, seconds of a fast step and of an ocean step (both fill the coupling step of an hour), what it is
 CASES = [
     ("32", 24, 1800, 1800, "size 32, 24 steps"),
@@ -70,18 +73,24 @@ def exchange_cells(size):
 
 
 def cell_times(program):
-    """Gives the seconds of a cell and coupling step by size. The sizes run in turn, so that a slower hour of the machine meets all."""
+    """Gives the seconds of a cell and coupling step by size.
+
+    The sizes run in turn, each for about as long, so that a slower moment of the machine meets all alike.
+    """
     names = write_names(24, 1800, 1800)
-    times = {"32": [], "48": [], "64": []}
-    for _ in range(RUNS):
-        for size, taken in times.items():
-            seconds, came = program.run(size, names)
-            taken.append(seconds / int(came[0].split()[2]) / 24)
-    return {size: min(taken) for size, taken in times.items()}
+    least = {}
+    for _ in range(ROUNDS):
+        for size, runs in RUNS_OF_ROUND.items():
+            each = 0
+            for _ in range(runs):
+                seconds, came = program.run(size, names)
+                each += seconds / int(came[0].split()[2]) / 24 / runs
+            least[size] = min(each, least.get(size, each))
+    return least
 
 
 def main():
-    os.environ.setdefault("GLIBC_TUNABLES", "glibc.malloc.hugetlb=1")
+    os.environ.setdefault("GLIBC_TUNABLES", "glibc.malloc.hugetlb=1:glibc.malloc.mmap_threshold=1073741824")
     programs = [Program(path, f"out{n}") for n, path in enumerate(sys.argv[1:])]
     missed, by_fast = [], {}
     print(f"{'':40}{'seconds':>9}{'other':>9}{'ratio':>7}{'peak MB':>9}{'of files':>9}")
