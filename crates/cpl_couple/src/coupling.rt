@@ -32,9 +32,15 @@ pub fn couple(grid: &Grid, names: &Names, whole: &mut Whole, room: &mut StepRoom
     ensures took { result.slow.took ≡ gain_sums (ocean_cells grid.now) (step_arrived grid.now names.now whole.old) }
     ensures room { IsStepRoom grid.now room.new }
 {
-    room.flight.copy_from_slice(whole.to_ocean.as_slice());
     mem::swap(whole, &mut room.mid.whole);
-    let tally = go_surface(grid, names, &mut room.mid, &mut room.fast, &mut room.slow);
+    let tally = go_surface(
+        grid,
+        names,
+        &mut room.mid,
+        &mut room.flight,
+        &mut room.fast,
+        &mut room.slow,
+    );
     mem::swap(whole, &mut room.mid.whole);
     go_ocean(grid, names, whole, &mut room.flight, &mut room.sea);
     whole.elapsed += names.dt;

@@ -20,7 +20,7 @@ pub struct StepRoom {
     pub(crate) sea: SeaRoom,
     // Skin and frazil. Its state changes places with that of the caller while air, land and ice go on.
     pub(crate) mid: Mid,
-    // The flight that the ocean adds, since the ice writes the next one before.
+    // The flight that the ocean adds. It changes places with that of the state, to which the ice writes the next one before.
     pub(crate) flight: Vec<i64>,
 }
 

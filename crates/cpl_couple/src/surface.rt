@@ -1,5 +1,5 @@
 // Air, land and ice in a coupling step.
-ghost use Rattle.std.specs.Prelude.{◌≡◌, ◌<◌, ◌≤◌, ℕ};
+ghost use Rattle.std.specs.Prelude.{◌≡◌, ◌*◌, ◌<◌, ◌≤◌, ℕ, length};
 ghost use Rattle.cpl_restart.specs.CouplingStep.{before, fast_by, step_arrived, step_runoff, surface_after};
 ghost use Rattle.cpl_restart.specs.FastLaws.{CanStep};
 ghost use Rattle.cpl_restart.specs.States.{land_cells, ocean_cells};
@@ -33,20 +33,24 @@ fn go_fast(grid: &Grid, names: &Names, month: u32, mid: &mut Mid, room: &mut Fas
     sum
 }
 
-// Air, land and ice go on by a coupling step: the ice takes the flight to it, then the fast steps, then the slow step.
+// Air, land and ice go on by a coupling step: the ice takes the flight to it, then the fast steps, then the slow step. The flight to
+// the ocean from before goes to `flight`.
 pub(crate) fn go_surface(
     grid: &Grid,
     names: &Names,
     mid: &mut Mid,
+    flight: &mut Vec<i64>,
     fast: &mut FastRoom,
     slow: &mut SlowRoom,
 ) -> SurfaceTally
     requires can { CanCoupleOn grid.now names.now mid.old.whole }
     requires skins { HasSkins grid.now mid.old }
+    requires count { length flight.old.items ≡ 3 * ocean_cells grid.now }
     requires fast { IsFastRoom grid.now fast.old }
     requires slow { IsSlowRoom grid.now slow.old }
     ensures whole { mid.new.whole ≡ surface_after grid.now names.now mid.old.whole }
     ensures skins { HasSkins grid.now mid.new }
+    ensures flight { flight.new.items ≡ mid.old.whole.to_ocean }
     ensures fast { IsFastRoom grid.now fast.new }
     ensures slow { IsSlowRoom grid.now slow.new }
     ensures moved { result.fast ≡ all_fast_sums grid.now names.now mid.old.whole }
@@ -54,7 +58,7 @@ pub(crate) fn go_surface(
     ensures took { result.slow.took ≡ gain_sums (ocean_cells grid.now) (step_arrived grid.now names.now mid.old.whole) }
 {
     let month = names.month_of(mid.whole.elapsed);
-    take_flights(grid, mid, slow);
+    take_flights(grid, mid, flight, slow);
     fast.divide(grid, &names.rates, month, mid);
     let moved = go_fast(grid, names, month, mid, fast);
     let drained = slow_step(grid, &names.rates, mid, slow);

@@ -50,7 +50,8 @@ fn take(alloc: Global, grid: &Grid, mid: &mut Mid) -> Result<(), AllocError>
     ensures { OnOk result (mid.new ≡ taken grid.now mid.old.whole) }
 {
     let mut room = SlowRoom::new(alloc, grid)?;
-    take_flights(grid, mid, &mut room);
+    let mut flight = vec![in alloc; 0; 3 * grid.ocean.mosaic.cells() as usize]?;
+    take_flights(grid, mid, &mut flight, &mut room);
     Ok(())
 }
 

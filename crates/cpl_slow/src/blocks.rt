@@ -18,6 +18,7 @@ pub(crate) fn filled_up<const N: usize>(xs: &[i64], width: usize, n: usize) -> [
 }
 
 // Puts the first numbers of a block into a list, from a place on.
+#[inline]
 pub(crate) fn put(xs: &mut [i64], start: usize, width: usize, block: &[i64])
     requires block { width ≤ length block.now }
     requires within { start + width ≤ length xs.old }

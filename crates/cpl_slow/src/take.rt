@@ -1,14 +1,14 @@
 // The flights are taken.
 ghost use Rattle.std.specs.Prelude.{◌≡◌, ◌*◌, length};
 ghost use Rattle.cpl_xgrid.specs.Grids.{IsGrid};
-ghost use Rattle.cpl_restart.specs.States.{of_cell};
+ghost use Rattle.cpl_restart.specs.States.{ocean_cells, of_cell};
 ghost use Rattle.cpl_restart.specs.FastStep.{for_each};
 ghost use Rattle.cpl_restart.specs.CouplingStep.{no_flights, taken};
 ghost use Rattle.cpl_slow.specs.Flights.{HoldFlights, mid_with_flights};
 ghost use Rattle.cpl_slow.specs.Rooms.{CanTake, IsSlowRoom};
 
+use crate::blocks::put;
 use crate::room::SlowRoom;
-use cpl_fixed::List;
 use cpl_restart::Mid;
 use cpl_xgrid::Grid;
 use std::alloc::Global;
@@ -51,25 +51,29 @@ impl FlightLists {
     }
 }
 
-// Spreads the flights of cells over five lists, one for each place.
+// Nothing flies to a cell.
+const NOTHING: [i64; FLIGHT] = [0; FLIGHT];
+
+// Spreads the flights of cells over five lists, one for each place. Nothing flies any more.
 fn spread(
-    flights: &[i64],
+    flights: &mut [i64],
     frazil_water: &mut [i64],
     frazil_heat: &mut [i64],
     skin_water: &mut [i64],
     skin_heat: &mut [i64],
     skin_salt: &mut [i64],
 )
-    requires flights { length flights.now ≡ 5 * length frazil_water.old }
+    requires flights { length flights.old ≡ 5 * length frazil_water.old }
     requires frazil_heat { length frazil_heat.old ≡ length frazil_water.old }
     requires skin_water { length skin_water.old ≡ length frazil_water.old }
     requires skin_heat { length skin_heat.old ≡ length frazil_water.old }
     requires skin_salt { length skin_salt.old ≡ length frazil_water.old }
-    ensures frazil_water { frazil_water.new ≡ for_each (length frazil_water.old) (λ n. of_cell 5 n 0 flights.now) }
-    ensures frazil_heat { frazil_heat.new ≡ for_each (length frazil_water.old) (λ n. of_cell 5 n 1 flights.now) }
-    ensures skin_water { skin_water.new ≡ for_each (length frazil_water.old) (λ n. of_cell 5 n 2 flights.now) }
-    ensures skin_heat { skin_heat.new ≡ for_each (length frazil_water.old) (λ n. of_cell 5 n 3 flights.now) }
-    ensures skin_salt { skin_salt.new ≡ for_each (length frazil_water.old) (λ n. of_cell 5 n 4 flights.now) }
+    ensures frazil_water { frazil_water.new ≡ for_each (length frazil_water.old) (λ n. of_cell 5 n 0 flights.old) }
+    ensures frazil_heat { frazil_heat.new ≡ for_each (length frazil_water.old) (λ n. of_cell 5 n 1 flights.old) }
+    ensures skin_water { skin_water.new ≡ for_each (length frazil_water.old) (λ n. of_cell 5 n 2 flights.old) }
+    ensures skin_heat { skin_heat.new ≡ for_each (length frazil_water.old) (λ n. of_cell 5 n 3 flights.old) }
+    ensures skin_salt { skin_salt.new ≡ for_each (length frazil_water.old) (λ n. of_cell 5 n 4 flights.old) }
+    ensures flights { flights.new ≡ no_flights (length flights.old) }
 {
     for n in 0..frazil_water.len() {
         let start = n * FLIGHT;
@@ -78,35 +82,32 @@ fn spread(
         skin_water[n] = flights[start + 2];
         skin_heat[n] = flights[start + 3];
         skin_salt[n] = flights[start + 4];
+        put(flights, start, FLIGHT, &NOTHING);
     }
 }
 
-// Zeros in place of all numbers of a list.
-fn clear(list: &mut List<i64>, spare: &mut Vec<i64>)
-    ensures { list.new ≡ no_flights (length list.old) }
-{
-    list.swap(spare);
-    spare.fill(0);
-    list.swap(spare);
-}
-
-/// The beginning of a coupling step: the ice takes the flight to it, as frazil and skin, and nothing flies any more. The ocean
-/// has the flight to it from the state before. What skin and frazil were before is of no use. It takes no memory.
-pub fn take_flights(grid: &Grid, mid: &mut Mid, room: &mut SlowRoom)
-    requires { CanTake grid.now mid.old }
+/// The beginning of a coupling step: the ice takes the flight to it, as frazil and skin, and nothing flies any more. The list of
+/// the flight to the ocean goes to `flight`, for the ocean to add it later, and the state has the list from there, which has as many
+/// numbers. What it, skin and frazil held before is of no use. It takes no memory.
+pub fn take_flights(grid: &Grid, mid: &mut Mid, flight: &mut Vec<i64>, room: &mut SlowRoom)
+    requires can { CanTake grid.now mid.old }
+    requires count { length flight.old.items ≡ 3 * ocean_cells grid.now }
     ensures value { mid.new ≡ taken grid.now mid.old.whole }
+    ensures flight { flight.new.items ≡ mid.old.whole.to_ocean }
     ensures room { IsSlowRoom grid.now room.old → IsSlowRoom grid.now room.new }
 {
+    flight.fill(0);
+    mid.whole.to_ocean.swap(flight);
     room.flights.swap(mid);
+    mid.whole.to_ice.swap(&mut room.spare);
     spread(
-        mid.whole.to_ice.as_slice(),
+        &mut room.spare,
         &mut room.flights.frazil_water,
         &mut room.flights.frazil_heat,
         &mut room.flights.skin_water,
         &mut room.flights.skin_heat,
         &mut room.flights.skin_salt,
     );
+    mid.whole.to_ice.swap(&mut room.spare);
     room.flights.swap(mid);
-    clear(&mut mid.whole.to_ice, &mut room.spare);
-    clear(&mut mid.whole.to_ocean, &mut room.spare);
 }

@@ -14,44 +14,44 @@ go_surface-tally-requires-clause-can c = subst (CanCoupleOn c.args.grid.now c.ar
 pub go_ocean-requires-clause-sea : goal.go_ocean-requires-clause-sea
 go_ocean-requires-clause-sea c =
     let turn = c.swap-2.ensures.x_after ∙ c.go_surface-tally.ensures.whole ∙ ap (surface_after c.args.grid.now c.args.names.now) c.swap.ensures.y_after in
-    let flown = c.copy_from_slice.ensures.items ∙ c.as_slice.ensures in
-    turned_is c.args.grid.now c.args.names.now c.args.whole.now c.requires.can c.swap-2.new.x c.copy_from_slice.new.self.items turn flown
+    let flown = c.go_surface-tally.ensures.flight ∙ ap (λ (w : Whole). w.to_ocean) c.swap.ensures.y_after in
+    turned_is c.args.grid.now c.args.names.now c.args.whole.now c.requires.can c.swap-2.new.x c.go_surface-tally.new.flight.items turn flown
 
 pub go_ocean-requires-clause-flight : goal.go_ocean-requires-clause-flight
 go_ocean-requires-clause-flight c =
     let turn = c.swap-2.ensures.x_after ∙ c.go_surface-tally.ensures.whole ∙ ap (surface_after c.args.grid.now c.args.names.now) c.swap.ensures.y_after in
-    let flown = c.copy_from_slice.ensures.items ∙ c.as_slice.ensures in
-    flight_in_range c.args.grid.now c.args.names.now c.args.whole.now c.requires.can c.swap-2.new.x c.copy_from_slice.new.self.items turn flown
+    let flown = c.go_surface-tally.ensures.flight ∙ ap (λ (w : Whole). w.to_ocean) c.swap.ensures.y_after in
+    flight_in_range c.args.grid.now c.args.names.now c.args.whole.now c.requires.can c.swap-2.new.x c.go_surface-tally.new.flight.items turn flown
 
 pub go_ocean-requires-clause-count : goal.go_ocean-requires-clause-count
 go_ocean-requires-clause-count c =
     let turn = c.swap-2.ensures.x_after ∙ c.go_surface-tally.ensures.whole ∙ ap (surface_after c.args.grid.now c.args.names.now) c.swap.ensures.y_after in
-    let flown = c.copy_from_slice.ensures.items ∙ c.as_slice.ensures in
-    flight_count c.args.grid.now c.args.names.now c.args.whole.now c.requires.can c.swap-2.new.x c.copy_from_slice.new.self.items turn flown
+    let flown = c.go_surface-tally.ensures.flight ∙ ap (λ (w : Whole). w.to_ocean) c.swap.ensures.y_after in
+    flight_count c.args.grid.now c.args.names.now c.args.whole.now c.requires.can c.swap-2.new.x c.go_surface-tally.new.flight.items turn flown
 
 pub go_ocean-requires-clause-to_ice : goal.go_ocean-requires-clause-to_ice
 go_ocean-requires-clause-to_ice c =
     let turn = c.swap-2.ensures.x_after ∙ c.go_surface-tally.ensures.whole ∙ ap (surface_after c.args.grid.now c.args.names.now) c.swap.ensures.y_after in
-    let flown = c.copy_from_slice.ensures.items ∙ c.as_slice.ensures in
-    ice_count c.args.grid.now c.args.names.now c.args.whole.now c.requires.can c.swap-2.new.x c.copy_from_slice.new.self.items turn flown
+    let flown = c.go_surface-tally.ensures.flight ∙ ap (λ (w : Whole). w.to_ocean) c.swap.ensures.y_after in
+    ice_count c.args.grid.now c.args.names.now c.args.whole.now c.requires.can c.swap-2.new.x c.go_surface-tally.new.flight.items turn flown
 
 pub go_ocean-requires-clause-steps : goal.go_ocean-requires-clause-steps
 go_ocean-requires-clause-steps c =
     let turn = c.swap-2.ensures.x_after ∙ c.go_surface-tally.ensures.whole ∙ ap (surface_after c.args.grid.now c.args.names.now) c.swap.ensures.y_after in
-    let flown = c.copy_from_slice.ensures.items ∙ c.as_slice.ensures in
-    flown_is c.args.grid.now c.args.names.now c.args.whole.now c.requires.can c.swap-2.new.x c.copy_from_slice.new.self.items turn flown
+    let flown = c.go_surface-tally.ensures.flight ∙ ap (λ (w : Whole). w.to_ocean) c.swap.ensures.y_after in
+    flown_is c.args.grid.now c.args.names.now c.args.whole.now c.requires.can c.swap-2.new.x c.go_surface-tally.new.flight.items turn flown
 
 pub overflow_add-whole : goal.overflow_add-whole
 overflow_add-whole c =
     let turn = c.swap-2.ensures.x_after ∙ c.go_surface-tally.ensures.whole ∙ ap (surface_after c.args.grid.now c.args.names.now) c.swap.ensures.y_after in
-    let flown = c.copy_from_slice.ensures.items ∙ c.as_slice.ensures in
-    seconds_fit c.args.grid.now c.args.names.now c.args.whole.now c.requires.can c.swap-2.new.x c.copy_from_slice.new.self.items turn flown c.go_ocean.new.whole c.go_ocean.ensures.value
+    let flown = c.go_surface-tally.ensures.flight ∙ ap (λ (w : Whole). w.to_ocean) c.swap.ensures.y_after in
+    seconds_fit c.args.grid.now c.args.names.now c.args.whole.now c.requires.can c.swap-2.new.x c.go_surface-tally.new.flight.items turn flown c.go_ocean.new.whole c.go_ocean.ensures.value
 
 pub returns-clause-value : goal.returns-clause-value
 returns-clause-value c =
     let turn = c.swap-2.ensures.x_after ∙ c.go_surface-tally.ensures.whole ∙ ap (surface_after c.args.grid.now c.args.names.now) c.swap.ensures.y_after in
-    let flown = c.copy_from_slice.ensures.items ∙ c.as_slice.ensures in
-    whole_step c.args.grid.now c.args.names.now c.args.whole.now c.requires.can c.swap-2.new.x c.copy_from_slice.new.self.items turn flown c.go_ocean.new.whole c.go_ocean.ensures.value
+    let flown = c.go_surface-tally.ensures.flight ∙ ap (λ (w : Whole). w.to_ocean) c.swap.ensures.y_after in
+    whole_step c.args.grid.now c.args.names.now c.args.whole.now c.requires.can c.swap-2.new.x c.go_surface-tally.new.flight.items turn flown c.go_ocean.new.whole c.go_ocean.ensures.value
 
 pub returns-clause-keeps : goal.returns-clause-keeps
 returns-clause-keeps c = keeps c.args.grid.now c.args.names.now c.args.whole.now c.requires.can

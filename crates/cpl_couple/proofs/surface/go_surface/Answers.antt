@@ -2,8 +2,8 @@ use Rattle.std.proofs.Common.{arith}
 use Rattle.cpl_couple.proofs.Steps.{can_take, month_is, fast_can, fast_range, moved_is, slow_can, runoff_is, arrival_is, last_is, last_skins}
 use Rattle.cpl_couple.proofs.surface.go_surface.Goals as goal
 
-pub take_flights-requires : goal.take_flights-requires
-take_flights-requires c = can_take c.args.grid.now c.args.mid.now c.requires.can.run.is_whole c.requires.skins
+pub take_flights-requires-clause-can : goal.take_flights-requires-clause-can
+take_flights-requires-clause-can c = can_take c.args.grid.now c.args.mid.now c.requires.can.run.is_whole c.requires.skins
 
 pub divide-requires-clause-can : goal.divide-requires-clause-can
 divide-requires-clause-can c =

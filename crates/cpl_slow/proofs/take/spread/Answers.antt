@@ -1,9 +1,11 @@
-use Rattle.std.proofs.Common.{◌≡◌, ℕ, ◌<◌, ◌≤◌, arith, List, length}
+use Rattle.std.proofs.Common.{◌≡◌, refl, subst, ℕ, ◌*◌, ◌<◌, ◌≤◌, arith, List, length}
 use Rattle.std.specs.Prelude.{ℤ, pos}
 use Rattle.std.proofs.lemmas.List.FromFn.{fill_by_all}
 use Rattle.cpl_fixed.specs.Amounts.{at}
 use Rattle.cpl_restart.specs.States.{of_cell}
 use Rattle.cpl_restart.specs.FastStep.{for_each}
+use Rattle.cpl_slow.specs.Blocks.{IsPartWay}
+use Rattle.cpl_slow.proofs.Writes.{part_way_all}
 use Rattle.cpl_slow.proofs.take.spread.Goals as goal
 
 -- a list whose cells all have their numbers
@@ -29,3 +31,8 @@ returns-clause-skin_heat c =
 pub returns-clause-skin_salt : goal.returns-clause-skin_salt
 returns-clause-skin_salt c =
     spread_all 4 (length c.args.frazil_water.now) c.loop-n.n c.args.flights.now c.loop-n.skin_salt (omega (arith, c.loop-n.auto.skin_salt, c.requires.skin_salt)) (omega (arith, c.loop-n-test.false, c.loop-n.auto.frazil_water)) c.loop-n.invariant.skin_salt
+
+pub returns-clause-flights : goal.returns-clause-flights
+returns-clause-flights c =
+    let all : c.loop-n.n * 5 ≡ length c.args.flights.now = omega (arith, c.loop-n-test.false, c.loop-n.auto.frazil_water, c.loop-n.auto.n-end, c.requires.flights) in
+    part_way_all (length c.args.flights.now) (λ i. pos 0) c.args.flights.now c.loop-n.flights refl (subst (λ (count : ℕ). IsPartWay count (λ i. pos 0) c.args.flights.now c.loop-n.flights) all c.loop-n.invariant.flights)
