@@ -5,13 +5,14 @@ ghost use Rattle.cpl_fixed.specs.Amounts.{IsAmount, at};
 ghost use Rattle.cpl_fixed.specs.Ranges.{AreRates, IsFromℤ};
 ghost use Rattle.cpl_fixed.specs.Shares.{part_of};
 ghost use Rattle.cpl_restart.specs.FastStep.{albedo};
-ghost use Rattle.cpl_fast.specs.Flows.{AreUsed, IsInCell, flow_at, link_at};
+ghost use Rattle.cpl_fast.specs.Flows.{ArePortions, AreUsed, IsInCell, before_in, flow_at, link_at};
 ghost use Rattle.cpl_fast.specs.Places.{place_in};
 ghost use Rattle.cpl_fast.specs.Sums.{AreClear, AreStill, IsClear, IsStill};
 ghost use Rattle.cpl_fast.specs.Suns.{only_sun, sun_in};
 
 use crate::flows::{Flow, NO_FLOW, Tables};
 use crate::numbers::part_of;
+use crate::portions::Portions;
 use cpl_fixed::Rates;
 use cpl_xgrid::Surface;
 
@@ -70,30 +71,33 @@ fn kept(share: i64, albedo: i64) -> i64
     part_of(share, 1_000 - albedo, 1_000)
 }
 
-// The sun that the elements of a row absorb, from a cell of the air with this sun and this area. Those of the area 0 aren't looked at.
+// The sun that the elements of a row absorb, of which these are the shares from its first element on: their amount is the sun on its cell
+// of the air, and their whole the cell's area. Elements of the area 0 aren't looked at. Behind the row the shares go on.
 fn row_suns(
     rates: &Rates,
     list: Surface,
-    sun: i64,
-    area: i64,
+    portions: &mut Portions,
     tables: &Tables,
     row: usize,
     flows: &mut [Flow],
 )
     requires rates { AreRates rates.now }
-    requires sun { IsAmount sun }
-    requires can { (k : ℕ) → k < tables.now.width → IsInCell area tables.now row k }
+    requires portions { ArePortions portions.old }
+    requires from { portions.old.from ≡ before_in tables.now row 0 }
+    requires can { (k : ℕ) → k < tables.now.width → IsInCell portions.old.whole tables.now row k }
     requires row { row < length tables.now.links.items }
     requires some { 0 < tables.now.width }
     requires flows { length flows.old ≡ length tables.now.links.items * tables.now.width }
     requires areas { length tables.now.areas.items ≡ length tables.now.links.items * tables.now.width }
     requires used { AreUsed tables.now }
     requires clear { IsStill tables.now flows.old row }
-    ensures row { (k : ℕ) → k < tables.now.width → flow_at flows.new (place_in (length tables.now.links.items) row k) ≡ only_sun (sun_in rates.now list sun area tables.now row k) }
+    ensures row { (k : ℕ) → k < tables.now.width → flow_at flows.new (place_in (length tables.now.links.items) row k) ≡ only_sun (sun_in rates.now list portions.old.amount portions.old.whole tables.now row k) }
     ensures others { (r k : ℕ) → r < length tables.now.links.items → r ≢ row
         → flow_at flows.new (place_in (length tables.now.links.items) r k) ≡ flow_at flows.old (place_in (length tables.now.links.items) r k) }
+    ensures portions { ArePortions portions.new }
+    ensures amount { portions.new.amount ≡ portions.old.amount }
+    ensures whole { portions.new.whole ≡ portions.old.whole }
 {
-    let mut portions = tables.portions(row, sun, area);
     for k in 0..tables.used(row) {
         let b = tables.area(row, k);
         if b != 0 {
@@ -105,7 +109,7 @@ fn row_suns(
 }
 
 // The sun that the elements of a list absorb, where nothing flows yet: by the sun on the cells of the air, of this strength in the month,
-// and by their areas.
+// and by their areas. Where a row follows another of its cell, the shares of the sun go on from there, which saves divisions.
 pub(crate) fn list_suns(
     rates: &Rates,
     list: Surface,
@@ -131,9 +135,17 @@ pub(crate) fn list_suns(
         → flow_at flows.new (place_in (length tables.now.links.items) row k)
         ≡ only_sun (sun_in rates.now list (part_of (at sun.now (link_at tables.now.links.items row).air) strength (pos 1_000)) (at area.now (link_at tables.now.links.items row).air) tables.now row k) }
 {
+    // The shares of no cell's sun yet.
+    let mut last = sun.len();
+    let mut portions = Portions::new(0, 0, 1);
     for row in 0..tables.links.len() {
-        let air = tables.link(row).air as usize;
-        let sun = part_of(sun[air], strength, 1_000);
-        row_suns(rates, list, sun, area[air], tables, row, flows);
+        let link = tables.link(row);
+        let air = link.air as usize;
+        if air != last || link.before != portions.from {
+            let sun = part_of(sun[air], strength, 1_000);
+            portions = tables.portions(row, sun, area[air]);
+            last = air;
+        }
+        row_suns(rates, list, &mut portions, tables, row, flows);
     }
 }

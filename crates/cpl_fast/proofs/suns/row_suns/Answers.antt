@@ -1,5 +1,5 @@
 use Rattle.std.proofs.Common.{◌≡◌, ◌≢◌, ◌∙◌, sym, ap, subst, ℕ, ◌+◌, ◌<◌, ◌≤◌, arith, to_z, of_z, w64, slice_set, length, List}
-use Rattle.std.specs.Prelude.{ℤ, pos, ◌+ℤ◌, ◌-ℤ◌}
+use Rattle.std.specs.Prelude.{pos, ◌+ℤ◌, ◌-ℤ◌}
 use Rattle.std.proofs.lemmas.Int.{ints}
 use Rattle.cpl_fixed.specs.Shares.{part_of, share}
 use Rattle.cpl_restart.specs.FastStep.{albedo}
@@ -12,12 +12,9 @@ use Rattle.cpl_fast.proofs.Ends.{entries_behind, row_end}
 use Rattle.cpl_fast.proofs.Nothing.{no_sun_in}
 use Rattle.cpl_fast.proofs.Parts.{amount_passed, area_read}
 use Rattle.cpl_fast.proofs.Placed.{ahead_stays, entry_more_by, entry_set_by, others_stand, entry_within}
-use Rattle.cpl_fast.proofs.Places.{area_passed, before_more, cell_passed}
+use Rattle.cpl_fast.proofs.Places.{before_more}
 use Rattle.cpl_fast.proofs.suns.row_suns.Goals as goal
 use Rattle.cpl_fast.proofs.suns.row_suns.Goals.{then-b-ne0, else-b-ne0}
-
-pub portions-portions-requires-clause-cell : goal.portions-portions-requires-clause-cell
-portions-portions-requires-clause-cell c = cell_passed c.args.area c.args.tables.now c.args.row 0 (c.requires.can 0 c.requires.some)
 
 pub next-share-requires-clause-weight : goal.next-share-requires-clause-weight
 next-share-requires-clause-weight c = let least = (c.requires.can c.loop-k.k (omega arith)).least in omega (arith, ints, c.area-b.ensures, least)
@@ -27,21 +24,20 @@ returns-clause-row c =
     let tables = c.args.tables.now in
     let rows = length tables.links.items in
     let row = c.args.row in
-    let area = area_passed c.args.area tables row 0 (c.requires.can 0 c.requires.some) in
-    let sun = amount_passed c.args.sun c.requires.sun in
+    let shares = c.args.portions.now in
     let inv = c.loop-k.invariant in
-    let own = λ (x a : ℤ) (j : ℕ). only_sun (sun_in c.args.rates.now c.args.list x a tables row j) in
+    let own = λ (j : ℕ). only_sun (sun_in c.args.rates.now c.args.list shares.amount shares.whole tables row j) in
     let n : c.loop-k.k ≡ c.used-k-end.result = omega arith in
     let end = row_end tables c.requires.used row c.requires.row c.used-k-end.result c.used-k-end.ensures.value in
-    entries_behind tables.areas.items rows tables.width row c.used-k-end.result end (λ j. flow_at c.loop-k.flows (place_in rows row j) ≡ own c.args.sun c.args.area j)
-    (λ j l. inv.row j (omega (arith, n, l)) ∙ (λ i. own (sun i) (area i) j))
-    (λ j behind l empty. inv.ahead j (omega (arith, n, behind)) ∙ c.requires.clear j l ∙ (λ i. only_sun (sym (no_sun_in c.args.rates.now c.args.list c.args.sun c.args.area tables row j empty) i)))
+    entries_behind tables.areas.items rows tables.width row c.used-k-end.result end (λ j. flow_at c.loop-k.flows (place_in rows row j) ≡ own j)
+    (λ j l. inv.row j (omega (arith, n, l)))
+    (λ j behind l empty. inv.ahead j (omega (arith, n, behind)) ∙ c.requires.clear j l ∙ (λ i. only_sun (sym (no_sun_in c.args.rates.now c.args.list shares.amount shares.whole tables row j empty) i)))
 
 pub next-share-requires-clause-within : goal.next-share-requires-clause-within
 next-share-requires-clause-within c =
     let can = c.requires.can c.loop-k.k (omega arith) in
     let low = can.least in let before = can.before in let within = can.within in let limit = can.range.1 in let some = can.range.0 in
-    let b = area_read c.area-b.result (area_in c.args.tables.now c.args.row c.loop-k.k) c.args.area c.area-b.ensures low (omega (arith, ints)) limit in
+    let b = area_read c.area-b.result (area_in c.args.tables.now c.args.row c.loop-k.k) c.args.portions.now.whole c.area-b.ensures low (omega (arith, ints)) limit in
     let from = c.loop-k.invariant.from in
     let whole = c.loop-k.invariant.whole in
     omega (arith, ints, b, from, whole, within)
@@ -56,13 +52,13 @@ loop-k-preserved c =
     let k = c.loop-k.k in
     let can = c.requires.can k (omega arith) in
     let low = can.least in let before = can.before in let within = can.within in let limit = can.range.1 in let some = can.range.0 in
-    let b = area_read c.area-b.result (area_in tables row k) c.args.area c.area-b.ensures low (omega (arith, ints)) limit in
+    let b = area_read c.area-b.result (area_in tables row k) c.args.portions.now.whole c.area-b.ensures low (omega (arith, ints)) limit in
     let inv = c.loop-k.invariant in
     let rows = length tables.links.items in
     let place = entry_within rows tables.width row k c.requires.row (omega arith) in
     let old = inv.ahead k (omega arith) ∙ c.requires.clear k (omega arith) in
-    let sun = to_z w64 (of_z w64 c.args.sun) in
-    let area = to_z w64 (of_z w64 c.args.area) in
+    let sun = c.args.portions.now.amount in
+    let area = c.args.portions.now.whole in
     let f : ℕ → Flow = λ j. only_sun (sun_in rates list sun area tables row j) in
     let Row = λ (flows : List Flow). (j : ℕ) → j < k + 1 → flow_at flows (place_in rows row j) ≡ f j in
     let Ahead = λ (flows : List Flow). (j : ℕ) → k + 1 ≤ j → flow_at flows (place_in rows row j) ≡ flow_at c.args.flows.now (place_in rows row j) in
@@ -71,7 +67,7 @@ loop-k-preserved c =
       | then-b-ne0 w ↦
           let range = w.next-share.ensures.range in
           let set = w.flows-is ∙ (λ i. slice_set c.loop-k.flows (w.place.ensures.value i) (record (flow_at c.loop-k.flows (w.place.ensures.value i)) { sun = to_z w64 (of_z w64 w.kept-absorbed.result) })) in
-          let part = amount_passed w.next-share.result range ∙ w.next-share.ensures.value ∙ (λ i. share (inv.sun i) (inv.from i) (inv.from i +ℤ b i) (inv.whole i)) in
+          let part = amount_passed w.next-share.result range ∙ w.next-share.ensures.value ∙ (λ i. share (inv.amount i) (inv.from i) (inv.from i +ℤ b i) (inv.whole i)) in
           let shade : to_z w64 (of_z w64 w.albedo.result) ≡ albedo rates list k =
           let e = w.albedo.ensures.value in let l = w.albedo.ensures.range.0 in let m = w.albedo.ensures.range.1 in omega (arith, ints) in
           let passed : to_z w64 (of_z w64 w.kept-absorbed.result) ≡ w.kept-absorbed.result = omega (arith, ints) in
@@ -79,7 +75,7 @@ loop-k-preserved c =
           let moved : w.next-share.new.self.from ≡ before_in tables row (k + 1) = w.next-share.ensures.from ∙ (λ i. inv.from i +ℤ b i) ∙ sym (before_more tables row k) in
           record {
             portions = subst ArePortions (sym w.portions-is) w.next-share.ensures.portions;
-            sun = ap (λ (p : Portions). p.amount) w.portions-is ∙ w.next-share.ensures.amount ∙ inv.sun;
+            amount = ap (λ (p : Portions). p.amount) w.portions-is ∙ w.next-share.ensures.amount ∙ inv.amount;
             whole = ap (λ (p : Portions). p.whole) w.portions-is ∙ w.next-share.ensures.whole ∙ inv.whole;
             from = ap (λ (p : Portions). p.from) w.portions-is ∙ moved;
             row = subst Row (sym set) (entry_set_by (λ j x. x ≡ f j) c.loop-k.flows rows row k no_flow _ c.requires.row (omega (arith, place)) inv.row
@@ -94,7 +90,7 @@ loop-k-preserved c =
           let none = no_sun_in rates list sun area tables row k empty in
           record {
             portions = subst ArePortions (sym w.portions-is) inv.portions;
-            sun = ap (λ (p : Portions). p.amount) w.portions-is ∙ inv.sun;
+            amount = ap (λ (p : Portions). p.amount) w.portions-is ∙ inv.amount;
             whole = ap (λ (p : Portions). p.whole) w.portions-is ∙ inv.whole;
             from = ap (λ (p : Portions). p.from) w.portions-is ∙ inv.from ∙ stays;
             row = subst Row (sym w.flows-is) (entry_more_by (λ j x. x ≡ f j) c.loop-k.flows rows row k no_flow inv.row (old ∙ (λ i. only_sun (sym none i))));
