@@ -6,7 +6,7 @@ ghost use Rattle.cpl_ice.specs.declared.parts.Salty.{Salty};
 ghost use Rattle.cpl_transport.specs.Cuts.{cut_of, frazil, frazil_of, skin_of, uncut, unfrozen};
 ghost use Rattle.cpl_transport.specs.Salts.{IsSalty, without};
 
-use cpl_fixed::{ICE_HEAT, MELT_HEAT, MOST_TOTAL, WATER_HEAT};
+use cpl_fixed::{ICE_HEAT, MELT_HEAT, MOST_TOTAL, WATER_HEAT, quotient};
 use cpl_ice::{Salty, ToIce};
 
 // The water that freezes.
@@ -18,8 +18,9 @@ fn frazil(water: u64, heat: u64) -> u64
     ensures filled { amount ICE_HEAT * result ≤ heat }
 {
     let wanted = u128::from(WATER_HEAT as u64) * u128::from(water);
-    let missing = wanted.saturating_sub(u128::from(heat)) / u128::from(MELT_HEAT as u64);
-    missing.min(u128::from((water / 2).min(heat / ICE_HEAT as u64))) as u64
+    let missing = wanted.saturating_sub(u128::from(heat));
+    let frozen = quotient(missing, u128::from(MELT_HEAT as u64));
+    frozen.min(u128::from((water / 2).min(heat / ICE_HEAT as u64))) as u64
 }
 
 // The layer without the frazil.
