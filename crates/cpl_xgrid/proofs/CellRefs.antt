@@ -13,8 +13,11 @@ use Rattle.cpl_xgrid.specs.declared.parts.Surface.{Surface}
 use Rattle.cpl_xgrid.specs.declared.parts.Surface.TheVariants.{Land, Ocean}
 use Rattle.cpl_xgrid.specs.declared.parts.Outlet.{Outlet}
 use Rattle.cpl_xgrid.specs.Groups.{numbers_from, groups_in, group_at}
-use Rattle.cpl_xgrid.specs.Rows.{air_cell, other_cell, land_cell, refs_to, refs_of_air, refs_of_other, outlets_of}
+use Rattle.cpl_xgrid.specs.declared.rules.Parent.{Parent}
+use Rattle.cpl_xgrid.specs.declared.rules.Parent.TheVariants as parent
+use Rattle.cpl_xgrid.specs.Rows.{air_cell, other_cell, land_cell, refs_to, outlets_of}
 use Rattle.cpl_xgrid.specs.Indexes.{for_cells, by_cell, ref_of}
+use Rattle.cpl_xgrid.specs.Parents.{parent_cells, lands_of, parent_refs}
 use Rattle.cpl_xgrid.proofs.Offsets.{same_range}
 use Rattle.cpl_xgrid.proofs.CellNumbers.{for_cells_same, for_cells_map}
 
@@ -78,9 +81,10 @@ ocean_numbers passes lands n m (item ∷ items) e =
 abbrev is_this : CellId → CellId → Bool
 is_this cell c = is_same_cell c cell
 
-air_refs_of : (land_rows ocean_rows : List XRow) (cell : CellId)
-    → map (ref_of (length land_rows)) (numbers_from (is_this cell) 0 (map air_cell land_rows ++ map air_cell ocean_rows)) ≡ refs_of_air land_rows ocean_rows cell
-air_refs_of land_rows ocean_rows cell =
+-- the exchange cells of a cell of a parent
+refs_of_cell : (of : Parent) (land_rows ocean_rows : List XRow) (cell : CellId)
+    → map (ref_of (lands_of of land_rows)) (numbers_from (is_this cell) 0 (parent_cells of land_rows ocean_rows)) ≡ parent_refs of land_rows ocean_rows cell
+refs_of_cell parent.Air land_rows ocean_rows cell =
     let lands = length land_rows in
     let passes = λ (row : XRow). is_this cell (air_cell row) in
     ap (λ (l : List CellId). map (ref_of lands) (numbers_from (is_this cell) 0 l)) (sym (map-append air_cell land_rows ocean_rows))
@@ -88,25 +92,17 @@ air_refs_of land_rows ocean_rows cell =
     ∙ map-append (ref_of lands) (numbers_from passes 0 land_rows) (numbers_from passes lands ocean_rows)
     ∙ ap (λ (l : List XRef). l ++ map (ref_of lands) (numbers_from passes lands ocean_rows)) (land_numbers passes lands 0 land_rows (omega arith))
     ∙ ap (λ (l : List XRef). refs_to Land (numbers_from passes 0 land_rows) ++ l) (ocean_numbers passes lands 0 lands ocean_rows (omega arith))
+refs_of_cell parent.Land land_rows ocean_rows cell =
+    let lands = length land_rows in
+    ap (map (ref_of lands)) (numbers_map (is_this cell) other_cell 0 land_rows) ∙ land_numbers (λ (row : XRow). is_this cell (other_cell row)) lands 0 land_rows (omega arith)
+refs_of_cell parent.Ocean land_rows ocean_rows cell =
+    ap (map (ref_of 0)) (numbers_map (is_this cell) other_cell 0 ocean_rows) ∙ ocean_numbers (λ (row : XRow). is_this cell (other_cell row)) 0 0 0 ocean_rows (omega arith)
 
--- the exchange cells of each cell
-pub air_refs : (tiles : List Tile) (land_rows ocean_rows : List XRow)
-    → map (map (ref_of (length land_rows))) (by_cell tiles (map air_cell land_rows ++ map air_cell ocean_rows)) ≡ for_cells tiles (refs_of_air land_rows ocean_rows)
-air_refs tiles land_rows ocean_rows =
-    for_cells_map tiles (λ cell. numbers_from (is_this cell) 0 (map air_cell land_rows ++ map air_cell ocean_rows)) (map (ref_of (length land_rows)))
-    ∙ for_cells_same tiles _ (refs_of_air land_rows ocean_rows) (air_refs_of land_rows ocean_rows)
-
-pub land_refs : (tiles : List Tile) (rows : List XRow) → map (map (ref_of (length rows))) (by_cell tiles (map other_cell rows)) ≡ for_cells tiles (refs_of_other Land rows)
-land_refs tiles rows =
-    for_cells_map tiles (λ cell. numbers_from (is_this cell) 0 (map other_cell rows)) (map (ref_of (length rows)))
-    ∙ for_cells_same tiles _ (refs_of_other Land rows) (λ cell.
-    ap (map (ref_of (length rows))) (numbers_map (is_this cell) other_cell 0 rows) ∙ land_numbers (λ (row : XRow). is_this cell (other_cell row)) (length rows) 0 rows (omega arith))
-
-pub ocean_refs : (tiles : List Tile) (rows : List XRow) → map (map (ref_of 0)) (by_cell tiles (map other_cell rows)) ≡ for_cells tiles (refs_of_other Ocean rows)
-ocean_refs tiles rows =
-    for_cells_map tiles (λ cell. numbers_from (is_this cell) 0 (map other_cell rows)) (map (ref_of 0))
-    ∙ for_cells_same tiles _ (refs_of_other Ocean rows) (λ cell.
-    ap (map (ref_of 0)) (numbers_map (is_this cell) other_cell 0 rows) ∙ ocean_numbers (λ (row : XRow). is_this cell (other_cell row)) 0 0 0 rows (omega arith))
+pub refs_by_parent : (of : Parent) (tiles : List Tile) (land_rows ocean_rows : List XRow)
+    → map (map (ref_of (lands_of of land_rows))) (by_cell tiles (parent_cells of land_rows ocean_rows)) ≡ for_cells tiles (parent_refs of land_rows ocean_rows)
+refs_by_parent of tiles land_rows ocean_rows =
+    for_cells_map tiles (λ cell. numbers_from (is_this cell) 0 (parent_cells of land_rows ocean_rows)) (map (ref_of (lands_of of land_rows)))
+    ∙ for_cells_same tiles _ (parent_refs of land_rows ocean_rows) (refs_of_cell of land_rows ocean_rows)
 
 pub outlet_numbers : (tiles : List Tile) (outlets : List Outlet) → by_cell tiles (map land_cell outlets) ≡ for_cells tiles (outlets_of outlets)
 outlet_numbers tiles outlets = for_cells_same tiles _ (outlets_of outlets) (λ cell. numbers_map (is_this cell) land_cell 0 outlets)

@@ -1,6 +1,5 @@
 -- The first fault of items that are judged one after another.
-use Rattle.std.proofs.Common.{◌≡◌, refl, sym, ◌∙◌, ap, subst, ℕ, zero, suc, ◌+◌, ◌<◌, ◌≤◌, arith, List, [], ◌∷◌, length, get_or, drop, Option, Some, None}
-use Rattle.std.proofs.lemmas.List.{drop_more, drop_all}
+use Rattle.std.proofs.Common.{◌≡◌, refl, sym, ◌∙◌, ap, subst, ℕ, zero, suc, ◌+◌, ◌<◌, arith, List, [], ◌∷◌, length, get_or, drop, Option, Some, None}
 use Rattle.cpl_xgrid.specs.declared.error.XGridError.{XGridError}
 use Rattle.cpl_xgrid.specs.declared.error.XGridError.TheVariants.{BadIndex, ZeroArea, AirSum, LandSum, OceanSum, Outlet, NoOutlet, Memory}
 use Rattle.cpl_xgrid.specs.Rules.{or_else, first_fault, IsFirstFault}
@@ -8,22 +7,6 @@ use Rattle.cpl_xgrid.specs.Rules.{or_else, first_fault, IsFirstFault}
 -- no item before the n-th has a fault
 abbrev pub JudgedTo : {T : Type 0} → (ℕ → T → Option XGridError) → List T → ℕ → Type 0
 JudgedTo judge items n = first_fault judge 0 items ≡ first_fault judge n (drop n items)
-
-at_item : {T : Type 0} (judge : ℕ → T → Option XGridError) (items : List T) (n : ℕ) (d : T) → n < length items → JudgedTo judge items n
-    → first_fault judge 0 items ≡ or_else (judge n (get_or items n d)) (first_fault judge (n + 1) (drop (n + 1) items))
-at_item judge items n d within judged = judged ∙ ap (first_fault judge n) (drop_more items n d within)
-
-pub judged_more : {T : Type 0} (judge : ℕ → T → Option XGridError) (items : List T) (n : ℕ) (d : T) → n < length items → JudgedTo judge items n → judge n (get_or items n d) ≡ None → JudgedTo judge items (n + 1)
-judged_more judge items n d within judged none =
-    at_item judge items n d within judged ∙ ap (λ (o : Option XGridError). or_else o (first_fault judge (n + 1) (drop (n + 1) items))) none
-
-pub judged_fault : {T : Type 0} (judge : ℕ → T → Option XGridError) (items : List T) (n : ℕ) (d : T) (fault : XGridError) → n < length items → JudgedTo judge items n → judge n (get_or items n d) ≡ Some fault
-    → first_fault judge 0 items ≡ Some fault
-judged_fault judge items n d fault within judged some =
-    at_item judge items n d within judged ∙ ap (λ (o : Option XGridError). or_else o (first_fault judge (n + 1) (drop (n + 1) items))) some
-
-pub judged_all : {T : Type 0} (judge : ℕ → T → Option XGridError) (items : List T) (n : ℕ) → length items ≤ n → JudgedTo judge items n → first_fault judge 0 items ≡ None
-judged_all judge items n past judged = judged ∙ ap (first_fault judge n) (drop_all n items past)
 
 -- rules that judge each item alike have the same first fault
 pub faults_agree : {T : Type 0} (judge other : ℕ → T → Option XGridError) (n : ℕ) (items : List T)

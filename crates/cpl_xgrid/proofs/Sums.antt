@@ -17,8 +17,11 @@ use Rattle.cpl_xgrid.specs.declared.parts.Surface.{Surface}
 use Rattle.cpl_xgrid.specs.declared.parts.Surface.TheVariants.{Land, Ocean}
 use Rattle.cpl_xgrid.specs.Lists.{IsArea, AreRows}
 use Rattle.cpl_xgrid.specs.Groups.{numbers_from}
+use Rattle.cpl_xgrid.specs.declared.rules.Parent.{Parent}
+use Rattle.cpl_xgrid.specs.declared.rules.Parent.TheVariants as parent
 use Rattle.cpl_xgrid.specs.Rows.{air_cell, other_cell, numbers_of, area_of, refs_to, refs_of_air, refs_of_other}
 use Rattle.cpl_xgrid.specs.Indexes.{list_of, no_row, ref_area, refs_area, AreRefs}
+use Rattle.cpl_xgrid.specs.Parents.{parent_refs, parent_sum}
 use Rattle.cpl_xgrid.proofs.CellRefs.{map_cond}
 
 pub total_append : (xs ys : List ℤ) → total_of (xs ++ ys) ≡ total_of xs +ℤ total_of ys
@@ -122,9 +125,9 @@ list_sum land_rows ocean_rows list cell_of cell =
     ∙ numbers_area passes [] rows 0 refl
     )
 
-pub air_sum : (land_rows ocean_rows : List XRow) (cell : CellId)
-    → refs_area land_rows ocean_rows (refs_of_air land_rows ocean_rows cell) ≡ area_of air_cell cell land_rows +ℤ area_of air_cell cell ocean_rows
-air_sum land_rows ocean_rows cell =
+-- and so do those of a cell of a parent
+pub parent_sum_is : (of : Parent) (land_rows ocean_rows : List XRow) (cell : CellId) → refs_area land_rows ocean_rows (parent_refs of land_rows ocean_rows cell) ≡ parent_sum of land_rows ocean_rows cell
+parent_sum_is parent.Air land_rows ocean_rows cell =
     let area = ref_area land_rows ocean_rows in
     let land = refs_to Land (numbers_of air_cell cell land_rows) in
     let ocean = refs_to Ocean (numbers_of air_cell cell ocean_rows) in
@@ -132,6 +135,8 @@ air_sum land_rows ocean_rows cell =
     ∙ total_append (map area land) (map area ocean)
     ∙ ap (λ (s : ℤ). s +ℤ total_of (map area ocean)) (list_sum land_rows ocean_rows Land air_cell cell)
     ∙ ap (λ (s : ℤ). area_of air_cell cell land_rows +ℤ s) (list_sum land_rows ocean_rows Ocean air_cell cell)
+parent_sum_is parent.Land land_rows ocean_rows cell = list_sum land_rows ocean_rows Land other_cell cell
+parent_sum_is parent.Ocean land_rows ocean_rows cell = list_sum land_rows ocean_rows Ocean other_cell cell
 
 -- the exchange cells of a cell are in their lists
 list_refs : (land_rows ocean_rows : List XRow) (list : Surface) (cell_of : XRow → CellId) (cell : CellId)
@@ -173,3 +178,9 @@ ocean_refs_are land_rows ocean_rows cell rows =
     let few = rows.few in
     let one = list_few Ocean ocean_rows other_cell cell in
     record { few = omega arith; each = list_refs land_rows ocean_rows Ocean other_cell cell }
+
+-- those of a cell of a parent are
+pub parent_refs_are : (of : Parent) (land_rows ocean_rows : List XRow) (cell : CellId) → AreRows land_rows ocean_rows → AreRefs land_rows ocean_rows (parent_refs of land_rows ocean_rows cell)
+parent_refs_are parent.Air land_rows ocean_rows cell rows = air_refs_are land_rows ocean_rows cell rows
+parent_refs_are parent.Land land_rows ocean_rows cell rows = land_refs_are land_rows ocean_rows cell rows
+parent_refs_are parent.Ocean land_rows ocean_rows cell rows = ocean_refs_are land_rows ocean_rows cell rows

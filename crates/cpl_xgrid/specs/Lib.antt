@@ -3,4 +3,5 @@ pub mod Lists
 pub mod Rows
 pub mod Rules
 pub mod Indexes
+pub mod Parents
 pub mod Grids

@@ -4,8 +4,8 @@ ghost use Rattle.cpl_xgrid.specs.Lists.{IsMesh, AreRows, AreOutlets, lists_of};
 ghost use Rattle.cpl_xgrid.specs.Rules.{xgrid_fault, IsFirstFault};
 ghost use Rattle.cpl_xgrid.specs.Indexes.{IsKept};
 
-use crate::refs::{outlets_of, sum_air, sum_land, sum_ocean};
-use crate::rules::{check_outlets, check_rows};
+use crate::refs::{outlets_of, sum_parent};
+use crate::rules::{Parent, check_outlets, check_rows};
 use crate::{Groups, Outlet, Surface, XGridError, XRef, XRow};
 use cpl_mosaic::Mesh;
 use std::alloc::Global;
@@ -40,9 +40,9 @@ pub(crate) fn indexes_of(
 {
     check_rows(Surface::Land, air, land, land_rows)?;
     check_rows(Surface::Ocean, air, ocean, ocean_rows)?;
-    let of_air = sum_air(alloc, air, land_rows, ocean_rows)?;
-    let of_land = sum_land(alloc, land, land_rows, ocean_rows)?;
-    let of_ocean = sum_ocean(alloc, ocean, land_rows, ocean_rows)?;
+    let of_air = sum_parent(alloc, Parent::Air, air, land_rows, ocean_rows)?;
+    let of_land = sum_parent(alloc, Parent::Land, land, land_rows, ocean_rows)?;
+    let of_ocean = sum_parent(alloc, Parent::Ocean, ocean, land_rows, ocean_rows)?;
     check_outlets(land, ocean, outlets)?;
     let runoff = outlets_of(alloc, land, outlets)?;
     Ok(Indexes {

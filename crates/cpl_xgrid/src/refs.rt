@@ -2,10 +2,10 @@
 ghost use Rattle.std.specs.Prelude.{◌≡◌, ◌+◌, ◌≤◌, ◌++◌, length, map, None, IfOk, OnOk, IfErr};
 ghost use Rattle.cpl_fixed.specs.declared.limits.TheConstants.{MOST_EXCHANGE_CELLS, MOST_OUTLETS};
 ghost use Rattle.cpl_xgrid.specs.Lists.{IsMesh, AreRows};
-ghost use Rattle.cpl_xgrid.specs.Rules.{tiles_of, first_fault, air_fault, land_fault, ocean_fault, no_outlet_fault, IsFirstFault};
-ghost use Rattle.cpl_xgrid.specs.declared.parts.Surface.TheVariants.{Land, Ocean};
-ghost use Rattle.cpl_xgrid.specs.Rows.{air_cell, other_cell, land_cell, refs_of_air, refs_of_other, outlets_of};
+ghost use Rattle.cpl_xgrid.specs.Rules.{tiles_of, first_fault, no_outlet_fault, IsFirstFault};
+ghost use Rattle.cpl_xgrid.specs.Rows.{air_cell, other_cell, land_cell, outlets_of};
 ghost use Rattle.cpl_xgrid.specs.Indexes.{AreCells, for_cells};
+ghost use Rattle.cpl_xgrid.specs.Parents.{parent_cells, lands_of, parent_refs, parent_fault};
 
 use crate::cells::by_cell;
 use crate::rules::{Parent, check_dry, check_sums};
@@ -52,90 +52,70 @@ pub fn land_cells(alloc: Global, outlets: &[Outlet]) -> Result<Vec<CellId>, Allo
     outlets.iter().map(|outlet| outlet.land).collect(alloc)
 }
 
-// The exchange cells of each cell of the air, in element order. They sum to its area, or the least cell is refused.
-pub(crate) fn sum_air(
+// The cells of a parent that its exchange cells are of.
+fn parent_cells(
     alloc: Global,
-    air: &Mesh,
+    of: Parent,
     land_rows: &[XRow],
     ocean_rows: &[XRow],
-) -> Result<Groups<XRef>, XGridError>
-    requires mesh { IsMesh air.now }
-    requires rows { AreRows land_rows.now ocean_rows.now }
-    requires cells { AreCells (tiles_of air.now) (map air_cell land_rows.now ++ map air_cell ocean_rows.now) }
-    ensures refs { IfOk result (λ refs. refs ≡ for_cells (tiles_of air.now) (refs_of_air land_rows.now ocean_rows.now)) }
-    ensures rules { OnOk result (air_fault air.now land_rows.now ocean_rows.now ≡ None) }
-    ensures fault { IfErr result (IsFirstFault (air_fault air.now land_rows.now ocean_rows.now)) }
+) -> Result<Vec<CellId>, AllocError>
+    requires { length land_rows.now + length ocean_rows.now ≤ MOST_EXCHANGE_CELLS }
+    ensures { IfOk result (λ cells. cells.items ≡ parent_cells of land_rows.now ocean_rows.now) }
 {
-    let _count = air.mosaic.cells();
-    let cells = air_cells(alloc, land_rows, ocean_rows)?;
-    let groups = by_cell(alloc, &air.mosaic, &cells)?;
-    drop(cells);
-    let refs = groups.refs(alloc, land_rows.len() as u32)?;
-    check_sums(
-        Parent::Air,
-        air.area.as_slice(),
-        &refs,
-        land_rows,
-        ocean_rows,
-    )?;
-    Ok(refs)
+    match of {
+        Parent::Air => air_cells(alloc, land_rows, ocean_rows),
+        Parent::Land => other_cells(alloc, land_rows),
+        Parent::Ocean => other_cells(alloc, ocean_rows),
+    }
 }
 
-// The exchange cells of each cell of the land, in element order. They sum to its area, or the least cell is refused.
-pub(crate) fn sum_land(
-    alloc: Global,
-    land: &Mesh,
-    land_rows: &[XRow],
-    ocean_rows: &[XRow],
-) -> Result<Groups<XRef>, XGridError>
-    requires mesh { IsMesh land.now }
-    requires rows { AreRows land_rows.now ocean_rows.now }
-    requires cells { AreCells (tiles_of land.now) (map other_cell land_rows.now) }
-    ensures refs { IfOk result (λ refs. refs ≡ for_cells (tiles_of land.now) (refs_of_other Land land_rows.now)) }
-    ensures rules { OnOk result (land_fault land.now land_rows.now ≡ None) }
-    ensures fault { IfErr result (IsFirstFault (land_fault land.now land_rows.now)) }
+// How many of them are of the land list.
+fn lands_of(of: Parent, land_rows: &[XRow]) -> u32
+    requires { length land_rows.now ≤ MOST_EXCHANGE_CELLS }
+    ensures { result ≡ lands_of of land_rows.now }
 {
-    let _count = land.mosaic.cells();
-    let cells = other_cells(alloc, land_rows)?;
-    let groups = by_cell(alloc, &land.mosaic, &cells)?;
-    drop(cells);
-    let refs = groups.refs(alloc, land_rows.len() as u32)?;
-    check_sums(
-        Parent::Land,
-        land.area.as_slice(),
-        &refs,
-        land_rows,
-        ocean_rows,
-    )?;
-    Ok(refs)
+    match of {
+        Parent::Air | Parent::Land => land_rows.len() as u32,
+        Parent::Ocean => 0,
+    }
 }
 
-// The exchange cells of each cell of the ocean, in element order. They sum to its area, or the least cell is refused.
-pub(crate) fn sum_ocean(
+// The exchange cells of each cell of a parent, in element order.
+fn parent_refs(
     alloc: Global,
-    ocean: &Mesh,
+    of: Parent,
+    mesh: &Mesh,
+    land_rows: &[XRow],
+    ocean_rows: &[XRow],
+) -> Result<Groups<XRef>, AllocError>
+    requires few { length land_rows.now + length ocean_rows.now ≤ MOST_EXCHANGE_CELLS }
+    requires cells { AreCells (tiles_of mesh.now) (parent_cells of land_rows.now ocean_rows.now) }
+    ensures { IfOk result (λ refs. refs ≡ for_cells (tiles_of mesh.now) (parent_refs of land_rows.now ocean_rows.now)) }
+{
+    let cells = parent_cells(alloc, of, land_rows, ocean_rows)?;
+    let groups = by_cell(alloc, &mesh.mosaic, &cells)?;
+    drop(cells);
+    groups.refs(alloc, lands_of(of, land_rows))
+}
+
+// The same, where they sum to the areas of the cells. Else the least cell that they don't sum to is refused.
+pub(crate) fn sum_parent(
+    alloc: Global,
+    of: Parent,
+    mesh: &Mesh,
     land_rows: &[XRow],
     ocean_rows: &[XRow],
 ) -> Result<Groups<XRef>, XGridError>
-    requires mesh { IsMesh ocean.now }
+    requires mesh { IsMesh mesh.now }
     requires rows { AreRows land_rows.now ocean_rows.now }
-    requires cells { AreCells (tiles_of ocean.now) (map other_cell ocean_rows.now) }
-    ensures refs { IfOk result (λ refs. refs ≡ for_cells (tiles_of ocean.now) (refs_of_other Ocean ocean_rows.now)) }
-    ensures rules { OnOk result (ocean_fault ocean.now ocean_rows.now ≡ None) }
-    ensures fault { IfErr result (IsFirstFault (ocean_fault ocean.now ocean_rows.now)) }
+    requires cells { AreCells (tiles_of mesh.now) (parent_cells of land_rows.now ocean_rows.now) }
+    ensures refs { IfOk result (λ refs. refs ≡ for_cells (tiles_of mesh.now) (parent_refs of land_rows.now ocean_rows.now)) }
+    ensures rules { OnOk result (parent_fault of mesh.now land_rows.now ocean_rows.now ≡ None) }
+    ensures fault { IfErr result (IsFirstFault (parent_fault of mesh.now land_rows.now ocean_rows.now)) }
 {
-    let _count = ocean.mosaic.cells();
-    let cells = other_cells(alloc, ocean_rows)?;
-    let groups = by_cell(alloc, &ocean.mosaic, &cells)?;
-    drop(cells);
-    let refs = groups.refs(alloc, 0)?;
-    check_sums(
-        Parent::Ocean,
-        ocean.area.as_slice(),
-        &refs,
-        land_rows,
-        ocean_rows,
-    )?;
+    let _count = mesh.mosaic.cells();
+    let refs = parent_refs(alloc, of, mesh, land_rows, ocean_rows)?;
+    check_sums(of, mesh.area.as_slice(), &refs, land_rows, ocean_rows)?;
     Ok(refs)
 }
 

@@ -1,19 +1,11 @@
-use Rattle.std.proofs.Common.{◌≡◌, sym, ◌∙◌, ap, subst, ◌<◌, arith, [], List, get_or, length}
-use Rattle.cpl_mosaic.specs.Contacts.{cells_of}
-use Rattle.cpl_mosaic.specs.Cells.{cell_of}
-use Rattle.cpl_xgrid.specs.Lists.{XGridLists}
+use Rattle.std.proofs.Common.{◌∙◌}
 use Rattle.cpl_xgrid.specs.Rows.{refs_of_air}
-use Rattle.cpl_xgrid.proofs.CellNumbers.{for_cells_count, for_cells_read}
+use Rattle.cpl_xgrid.specs.Lists.{XGridLists}
+use Rattle.cpl_xgrid.proofs.Parents.{kept_at}
 use Rattle.cpl_xgrid.proofs.xgrid.XGrid.cells_of_air.Goals as goal
 
 pub at-requires : goal.at-requires
-at-requires c =
-    let within = subst (λ (x : XGridLists). c.args.cell < cells_of x.air) (sym c.self.view_is) c.requires in
-    let count = ap length c.self.invariant.air ∙ for_cells_count c.self.inside.air.items (refs_of_air c.self.inside.land_rows.items c.self.inside.ocean_rows.items) in
-    omega arith
+at-requires c = (kept_at (λ (x : XGridLists). x.air) (λ (x : XGridLists). refs_of_air x.land_rows x.ocean_rows) _ _ _ c.args.cell c.self.view_is c.self.invariant.air c.requires).within
 
 pub returns : goal.returns
-returns c =
-    let within = subst (λ (x : XGridLists). c.args.cell < cells_of x.air) (sym c.self.view_is) c.requires in
-    subst (λ (x : XGridLists). c.at.result.now ≡ refs_of_air x.land_rows x.ocean_rows (cell_of x.air c.args.cell)) c.self.view_is
-    (c.at.ensures ∙ ap (λ (l : List (List _)). get_or l c.args.cell []) c.self.invariant.air ∙ for_cells_read c.self.inside.air.items (refs_of_air c.self.inside.land_rows.items c.self.inside.ocean_rows.items) c.args.cell [] within)
+returns c = c.at.ensures ∙ (kept_at (λ (x : XGridLists). x.air) (λ (x : XGridLists). refs_of_air x.land_rows x.ocean_rows) _ _ _ c.args.cell c.self.view_is c.self.invariant.air c.requires).is

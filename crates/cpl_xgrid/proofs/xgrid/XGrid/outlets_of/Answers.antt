@@ -1,19 +1,11 @@
-use Rattle.std.proofs.Common.{◌≡◌, sym, ◌∙◌, ap, subst, ◌<◌, arith, [], List, get_or, length}
-use Rattle.cpl_mosaic.specs.Contacts.{cells_of}
-use Rattle.cpl_mosaic.specs.Cells.{cell_of}
-use Rattle.cpl_xgrid.specs.Lists.{XGridLists}
+use Rattle.std.proofs.Common.{◌∙◌}
 use Rattle.cpl_xgrid.specs.Rows.{outlets_of}
-use Rattle.cpl_xgrid.proofs.CellNumbers.{for_cells_count, for_cells_read}
+use Rattle.cpl_xgrid.specs.Lists.{XGridLists}
+use Rattle.cpl_xgrid.proofs.Parents.{kept_at}
 use Rattle.cpl_xgrid.proofs.xgrid.XGrid.outlets_of.Goals as goal
 
 pub at-requires : goal.at-requires
-at-requires c =
-    let within = subst (λ (x : XGridLists). c.args.cell < cells_of x.land) (sym c.self.view_is) c.requires in
-    let count = ap length c.self.invariant.outlets ∙ for_cells_count c.self.inside.land.items (outlets_of c.self.inside.outlets.items) in
-    omega arith
+at-requires c = (kept_at (λ (x : XGridLists). x.land) (λ (x : XGridLists). outlets_of x.outlets) _ _ _ c.args.cell c.self.view_is c.self.invariant.outlets c.requires).within
 
 pub returns : goal.returns
-returns c =
-    let within = subst (λ (x : XGridLists). c.args.cell < cells_of x.land) (sym c.self.view_is) c.requires in
-    subst (λ (x : XGridLists). c.at.result.now ≡ outlets_of x.outlets (cell_of x.land c.args.cell)) c.self.view_is
-    (c.at.ensures ∙ ap (λ (l : List (List _)). get_or l c.args.cell []) c.self.invariant.outlets ∙ for_cells_read c.self.inside.land.items (outlets_of c.self.inside.outlets.items) c.args.cell [] within)
+returns c = c.at.ensures ∙ (kept_at (λ (x : XGridLists). x.land) (λ (x : XGridLists). outlets_of x.outlets) _ _ _ c.args.cell c.self.view_is c.self.invariant.outlets c.requires).is
