@@ -27,17 +27,18 @@ spot_same f g same (HoleAt E k depth) on = let ny = same.ny in let width = same.
 spot_same f g same (HoleAt S k depth) on = let nx = same.nx in let width = same.width in (omega arith, omega arith, omega arith)
 spot_same f g same (HoleAt N k depth) on = let nx = same.nx in let width = same.width in (omega arith, omega arith, omega arith)
 
-either_on : (f : FieldNumbers) (far near : Spot) → IsSpot f far → IsSpot f near → (b : Bool) → IsSpot f (if b then far else near)
-either_on f far near on other true = on
-either_on f far near on other false = other
+-- what holds of each of two holds of the one that a test picks
+pub choose : (P : Spot → Type 0) (b : Bool) (one other : Spot) → (b ≡ true → P one) → (b ≡ false → P other) → P (if b then one else other)
+choose P true one other first second = first refl
+choose P false one other first second = second refl
 
 -- and so is what lies behind a cell, and beyond what lies across its side
 pub behind_on : (area : FieldNumbers) → area.width ≡ 2 → (i j : ℕ) (side : Side) → IsSpot area (CellAt i j) → IsSpot area (behind area i j side)
 behind_on area width i j side on =
     let far = out_from area i j (opposite side) 1 in
-    either_on area far (CellAt i j) (out_on area i j (opposite side) 1 on (omega arith) (omega arith)) on (is_wet area far)
+    choose (IsSpot area) (is_wet area far) far (CellAt i j) (λ wet. out_on area i j (opposite side) 1 on (omega arith) (omega arith)) (λ dry. on)
 
 pub beyond_on : (area : FieldNumbers) → area.width ≡ 2 → (i j : ℕ) (side : Side) → IsSpot area (CellAt i j) → IsSpot area (beyond area i j side)
 beyond_on area width i j side on =
     let far = out_from area i j side 2 in
-    either_on area far (out_from area i j side 1) (out_on area i j side 2 on (omega arith) (omega arith)) (out_on area i j side 1 on (omega arith) (omega arith)) (is_wet area far)
+    choose (IsSpot area) (is_wet area far) far (out_from area i j side 1) (λ wet. out_on area i j side 2 on (omega arith) (omega arith)) (λ dry. out_on area i j side 1 on (omega arith) (omega arith))

@@ -1,5 +1,5 @@
 -- The numbers of faces, set one after the other.
-use Rattle.std.proofs.Common.{◌≡◌, ◌∙◌, refl, sym, ap, subst, ℕ, ◌+◌, ◌-◌, ◌*◌, ◌<◌, ◌≤◌, arith, inl, inr, Bool, true, false, List, get_or, slice_set, get_or-set_other, neg_ℤ}
+use Rattle.std.proofs.Common.{◌≡◌, ◌∙◌, sym, ap, subst, ℕ, ◌+◌, ◌-◌, ◌*◌, ◌<◌, ◌≤◌, arith, inl, inr, Bool, true, false, List, get_or, slice_set, get_or-set_other, neg_ℤ}
 use Rattle.std.specs.Prelude.{ℤ, pos, ◌-ℤ◌, ◌&&◌, ◌==◌, nat_lt, nat_le, if◌then◌else◌}
 use Rattle.std.proofs.lemmas.Bool.{cases_eq}
 use Rattle.std.proofs.lemmas.Bool.Decides.{nat_tests}
@@ -20,9 +20,6 @@ pub record Front (in_row rows : ℕ) (next : ℕ → ℕ → ℤ) (n : ℕ) (old
   pub before : (i j : ℕ) → i < in_row → j < rows → j * in_row + i < n → at new (j * in_row + i) ≡ next i j
   pub after : (k : ℕ) → n ≤ k → at new k ≡ at old k
 
-pub front_none : (in_row rows : ℕ) (next : ℕ → ℕ → ℤ) (list : List ℤ) → Front in_row rows next 0 list list
-front_none in_row rows next list = record { before = λ i j column row l. absurd (omega arith); after = λ k l. refl }
-
 -- one place more
 pub front_more : (in_row rows : ℕ) (next : ℕ → ℕ → ℤ) (old list new : List ℤ) (i j n : ℕ) → i < in_row → j < rows → n ≡ j * in_row + i → Front in_row rows next n old list → (v x : ℤ) → new ≡ slice_set list n v → at new n ≡ x → x ≡ next i j → Front in_row rows next (n + 1) old new
 front_more in_row rows next old list new i j n column row place front v x sets there is = record {
@@ -36,10 +33,6 @@ front_more in_row rows next old list new i j n column row place front v x sets t
   ];
   after = λ k l. ap (λ (xs : List ℤ). at xs k) sets ∙ get_or-set_other list n k v (pos 0) (λ e. absurd (omega arith)) ∙ front.after k (omega arith);
 }
-
--- the same by another place
-pub front_by : (in_row rows : ℕ) (next : ℕ → ℕ → ℤ) (old new : List ℤ) (m n : ℕ) → m ≡ n → Front in_row rows next m old new → Front in_row rows next n old new
-front_by in_row rows next old new m n e front = subst (λ (k : ℕ). Front in_row rows next k old new) e front
 
 -- seen from the other side
 abbrev Odd : Type 0
@@ -154,9 +147,6 @@ pub own_face : (u x : ℤ) → u ≡ x → IsFaceNumber u → read u ≡ x
 own_face u x e range = omega (arith, ints, e, range.0, range.1)
 
 module _ (area : FieldNumbers) (height : Spot → ℤ) (slope : ℕ) (old faces : FaceNumbers) where
-  pub east_start : EastTo area height slope 0 old old
-  east_start = record { nx = refl; ny = refl; north = refl; front = front_none (old.nx + 1) old.ny (next_east area height slope old) old.eastward }
-
   pub east_by : (m n : ℕ) → m ≡ n → EastTo area height slope m old faces → EastTo area height slope n old faces
   east_by m n e to = subst (λ (k : ℕ). EastTo area height slope k old faces) e to
 
@@ -204,9 +194,6 @@ module _ (area : FieldNumbers) (height : Spot → ℤ) (slope : ℕ) (old faces 
         (λ t. get_or faces.eastward (j * (to.nx t + 1) + i) (pos 0)) ∙ to.front.before i j (omega arith) row (omega arith);
     north = to.north;
   }
-
-  pub north_start : NorthTo area height slope 0 old old
-  north_start = record { nx = refl; ny = refl; east = refl; front = front_none old.nx (old.ny + 1) (next_north area height slope old) old.northward }
 
   pub north_by : (m n : ℕ) → m ≡ n → NorthTo area height slope m old faces → NorthTo area height slope n old faces
   north_by m n e to = subst (λ (k : ℕ). NorthTo area height slope k old faces) e to

@@ -4,7 +4,7 @@ use Rattle.std.specs.Prelude.{ℤ}
 use Rattle.std.proofs.lemmas.Bool.{cases_lt}
 use Rattle.std.proofs.lemmas.List.{get_or_past, length-set}
 use Rattle.cpl_field.specs.Crossings.{FaceNumbers, outward}
-use Rattle.cpl_field.specs.Spots.{FieldNumbers, Spot, CellAt, HoleAt, IsSpot, IsSameShape, number_at, out_from}
+use Rattle.cpl_field.specs.Spots.{FieldNumbers, Spot, CellAt, HoleAt, IsSpot, number_at, out_from}
 use Rattle.cpl_ocean.specs.declared.basin.Basin.{Basin}
 use Rattle.cpl_ocean.specs.Columns.{IsClose, height_at}
 use Rattle.cpl_ocean.specs.Layers.{AreLayersOf, EachLayer, IsLayerOf, LayerNumbers, SetsCell, layer_at, no_layer}
@@ -25,26 +25,6 @@ module _ (area : FieldNumbers) (height : Spot → ℤ) (slope : ℕ) (old new : 
         let count = driven.count in
         ap (λ (a : LayerNumbers). a.left) (get_or_past new l no_layer (omega arith) ∙ sym (get_or_past old l no_layer le))
   ]
-
-  shape_of : (f g : FieldNumbers) → g ≡ f → (h : FieldNumbers) → IsSameShape f h → IsSameShape g h
-  shape_of f g e h same = subst (λ (k : FieldNumbers). IsSameShape k h) (sym e) same
-
-  of_driven : (from to : LayerNumbers) → IsLayerOf area from → DrivesLayer area height slope from to → IsLayerOf area to
-  of_driven from to is drives = record {
-    fields = record {
-      shape = subst (λ (k : FieldNumbers). IsSameShape area k) (sym drives.water) is.fields.shape;
-      alike = record {
-        heat = subst (λ (k : FieldNumbers). IsSameShape to.fields.water k) (sym drives.heat) (subst (λ (k : FieldNumbers). IsSameShape k from.fields.heat) (sym drives.water) is.fields.alike.heat);
-        salt = subst (λ (k : FieldNumbers). IsSameShape to.fields.water k) (sym drives.salt) (subst (λ (k : FieldNumbers). IsSameShape k from.fields.salt) (sym drives.water) is.fields.alike.salt);
-        columns = drives.faces.nx ∙ is.fields.alike.columns ∙ ap (λ (k : FieldNumbers). k.nx) (sym drives.water);
-        rows = drives.faces.ny ∙ is.fields.alike.rows ∙ ap (λ (k : FieldNumbers). k.ny) (sym drives.water);
-      };
-    };
-    count = ap (λ xs. length xs) drives.left ∙ is.count;
-  }
-
-  pub driven_of : AreLayersOf area old → AreLayersOf area new
-  driven_of of l less = let count = driven.count in of_driven (layer_at old l) (layer_at new l) (of l (omega arith)) (driven.each l (omega arith))
 
   pub driven_all_left : (mix : ℕ) → IsAllLeft area old → IsAllLeft area new
   driven_all_left mix left i j on = left_same area mix old new (j * area.nx + i) driven.count driven_left (left i j on)

@@ -4,6 +4,7 @@ pub mod Raised
 pub mod Driven
 pub mod Stored
 pub mod Each
+pub mod Zones
 pub mod Steps
 pub mod Ended
 pub mod Loaded

@@ -1,16 +1,16 @@
 -- Numbers of a field, taken over from another one.
-use Rattle.std.proofs.Common.{◌≡◌, ◌≢◌, ◌∙◌, refl, sym, ap, subst, ℕ, zero, suc, ◌<◌, arith, inl, inr, List, length, slice_set}
+use Rattle.std.proofs.Common.{◌≡◌, ◌∙◌, refl, sym, ap, subst, ℕ, ◌<◌, arith, inl, inr, List, length, slice_set}
 use Rattle.std.proofs.lemmas.Bool.{cases_eq}
 use Rattle.std.proofs.lemmas.List.{length-set}
 use Rattle.cpl_mosaic.specs.declared.parts.Side.{Side}
 use Rattle.cpl_field.specs.Crossings.{FaceNumbers}
-use Rattle.cpl_field.specs.Spots.{FieldNumbers, Spot, CellAt, HoleAt, IsSpot, IsSameShape, number_at}
+use Rattle.cpl_field.specs.Spots.{FieldNumbers, CellAt, HoleAt, IsSpot, IsSameShape, number_at}
 use Rattle.cpl_ocean.specs.declared.basin.Basin.{Basin}
 use Rattle.cpl_ocean.specs.Columns.{Fills, IsAtDepth, IsCell}
 use Rattle.cpl_ocean.specs.Layers.{IsLayerOf, LayerNumbers, layer_at}
 use Rattle.cpl_ocean.specs.Pieces.{ChangesField, IsOcean, LoadsCells, LoadsHoles, field_in}
 use Rattle.cpl_ocean.proofs.Around.{spot_same}
-use Rattle.cpl_ocean.proofs.Stored.{back_shape, each_layer, hole_not_cell, then_shape}
+use Rattle.cpl_ocean.proofs.Stored.{back_shape, depth_of, each_layer, hole_not_cell, then_shape}
 
 pub loads_cells : (from old new : FieldNumbers) → IsSameShape from old → Fills from (number_at from) IsCell old new → LoadsCells from old new
 loads_cells from old new same fills = record {
@@ -18,10 +18,6 @@ loads_cells from old new same fills = record {
   cells = λ i j on. fills.meant (CellAt i j) (spot_same old from (back_shape from old same) (CellAt i j) on) (i, j, refl);
   holes = λ side k depth on. fills.others (HoleAt side k depth) (spot_same old from (back_shape from old same) (HoleAt side k depth) on) (λ w. hole_not_cell side k depth w.0 w.1 w.2);
 }
-
-abbrev depth_of : Spot → ℕ
-depth_of (CellAt i j) = 0
-depth_of (HoleAt side k depth) = depth
 
 pub loads_holes : (from old mid new : FieldNumbers) → from.width ≡ 2 → IsSameShape from old → Fills from (number_at from) (IsAtDepth 1) old mid → Fills from (number_at from) (IsAtDepth 2) mid new → LoadsHoles from old new
 loads_holes from old mid new width same near far = record {
@@ -42,32 +38,6 @@ loads_holes from old mid new width same near far = record {
   where
     depth_one : (side : Side) (k depth : ℕ) → IsSpot from (HoleAt side k depth) → (depth ≡ 2 → ⊥) → depth ≡ 1
     depth_one side k depth on other = let some = on.1 in let most = on.2 in omega arith
-
-module _ (Changes : FieldNumbers → FieldNumbers → Type 0) (old new : LayerNumbers) (faces : new.fields.faces ≡ old.fields.faces) (left : new.left ≡ old.left) where
-  pub changes_water : (n : ℕ) → n ≡ 0 → Changes old.fields.water new.fields.water → new.fields.heat ≡ old.fields.heat → new.fields.salt ≡ old.fields.salt → ChangesField n Changes old new
-  changes_water n e there heat salt = subst (λ (m : ℕ). ChangesField m Changes old new) (sym e) (record { there = there; others = others; faces = faces; left = left })
-    where
-      others : (m : ℕ) → m < 3 → m ≢ 0 → field_in new.fields m ≡ field_in old.fields m
-      others zero few ne = absurd (ne refl)
-      others (suc zero) few ne = heat
-      others (suc (suc m)) few ne = salt
-
-  pub changes_heat : (n : ℕ) → n ≡ 1 → Changes old.fields.heat new.fields.heat → new.fields.water ≡ old.fields.water → new.fields.salt ≡ old.fields.salt → ChangesField n Changes old new
-  changes_heat n e there water salt = subst (λ (m : ℕ). ChangesField m Changes old new) (sym e) (record { there = there; others = others; faces = faces; left = left })
-    where
-      others : (m : ℕ) → m < 3 → m ≢ 1 → field_in new.fields m ≡ field_in old.fields m
-      others zero few ne = water
-      others (suc zero) few ne = absurd (ne refl)
-      others (suc (suc m)) few ne = salt
-
-  pub changes_salt : (n : ℕ) → n ≡ 2 → Changes old.fields.salt new.fields.salt → new.fields.water ≡ old.fields.water → new.fields.heat ≡ old.fields.heat → ChangesField n Changes old new
-  changes_salt n e there water heat = subst (λ (m : ℕ). ChangesField m Changes old new) (sym e) (record { there = there; others = others; faces = faces; left = left })
-    where
-      others : (m : ℕ) → m < 3 → m ≢ 2 → field_in new.fields m ≡ field_in old.fields m
-      others zero few ne = water
-      others (suc zero) few ne = heat
-      others (suc (suc zero)) few ne = absurd (ne refl)
-      others (suc (suc (suc m))) few ne = absurd (omega arith)
 
 -- each field of a layer has the shape that it had
 kept_shape : (Changes : FieldNumbers → FieldNumbers → Type 0) → ((f g : FieldNumbers) → Changes f g → IsSameShape f g) → (n : ℕ) (old new : LayerNumbers) → ChangesField n Changes old new → (m : ℕ) → m < 3 → IsSameShape (field_in old.fields m) (field_in new.fields m)

@@ -15,12 +15,11 @@ use Rattle.cpl_ocean.specs.declared.basin.Basin.{Basin}
 use Rattle.cpl_ocean.specs.Columns.{Fills, IsAtDepth, IsCell, IsCellBefore, IsCellBelow, IsClose, IsHoleBefore, IsNear, column_water, height_at}
 use Rattle.cpl_ocean.specs.Flows.{AreHeights, is_wet}
 use Rattle.cpl_ocean.specs.Sweeps.{IsBasin}
+use Rattle.cpl_ocean.specs.Zones.{IsRead}
+use Rattle.cpl_ocean.specs.declared.zone.Zone.{Zone}
+use Rattle.cpl_ocean.specs.declared.zone.Zone.TheVariants.{Inner, Rim}
 use Rattle.cpl_ocean.proofs.Around.{spot_same}
-
--- the column, the row and the place of a spot
-abbrev column : Spot → ℕ
-column (CellAt i j) = i
-column (HoleAt side k depth) = k
+use Rattle.cpl_ocean.proofs.Stored.{back_shape, column, depth_of, kind, row, then_shape}
 
 abbrev code : Side → ℕ
 code W = 0
@@ -32,21 +31,6 @@ abbrev code_of : Spot → ℕ
 code_of (CellAt i j) = 4
 code_of (HoleAt side k depth) = code side
 
-abbrev depth_of : Spot → ℕ
-depth_of (CellAt i j) = 0
-depth_of (HoleAt side k depth) = depth
-
-abbrev kind : Spot → ℕ
-kind (CellAt i j) = 0
-kind (HoleAt side k depth) = 1
-
-back_shape : (f g : FieldNumbers) → IsSameShape g f → IsSameShape f g
-back_shape f g same = record { nx = sym same.nx; ny = sym same.ny; width = sym same.width }
-
-abbrev row : Spot → ℕ
-row (CellAt i j) = j
-row (HoleAt side k depth) = k
-
 pub own_height : (x : ℤ) → IsHeight x → read x ≡ x
 own_height x h = omega (arith, ints, h.0, h.1)
 
@@ -55,19 +39,12 @@ height_range m true = (omega (arith, ints), omega (arith, ints))
 height_range m false = (omega (arith, ints), omega (arith, ints))
 
 module _ (area : FieldNumbers) (number : Spot → ℤ) where
-  pub filled_none : (P : Spot → Type 0) (heights : FieldNumbers) → ((spot : Spot) → IsSpot area spot → P spot → ⊥) → Fills area number P heights heights
-  filled_none P heights none = record {
-    shape = record { nx = refl; ny = refl; width = refl };
-    meant = λ spot on p. absurd (none spot on p);
-    others = λ spot on never. refl;
-  }
-
   -- one spot more
   pub filled_one : (P Q : Spot → Type 0) (old heights new : FieldNumbers) → IsSameShape area old → Fills area number P old heights → (spot : Spot) (v : ℤ) → Sets heights new spot v → v ≡ number spot
       → ((other : Spot) → Q other → (other ≡ spot) ⊎ (P other × (other ≢ spot)))
       → ((other : Spot) → P other → Q other) → Q spot → Fills area number Q old new
   filled_one P Q old heights new same before spot v sets is split keep there = record {
-    shape = record { nx = sets.shape.nx ∙ before.shape.nx; ny = sets.shape.ny ∙ before.shape.ny; width = sets.shape.width ∙ before.shape.width };
+    shape = then_shape old heights new before.shape sets.shape;
     meant = λ other on q. elim (split other q) [
       | inl e ↦ ap (number_at new) e ∙ sets.there ∙ is ∙ ap number (sym e)
       | inr w ↦ sets.others other (spot_same old heights before.shape other (spot_same area old same other on)) w.1 ∙ before.meant other on w.0
@@ -82,7 +59,7 @@ module _ (area : FieldNumbers) (number : Spot → ℤ) where
       → ((spot : Spot) → R spot → Q spot ⊎ (P spot × (Q spot → ⊥)))
       → ((spot : Spot) → P spot → R spot) → ((spot : Spot) → Q spot → R spot) → Fills area number R old new
   filled_more P Q R old heights new before after split first second = record {
-    shape = record { nx = after.shape.nx ∙ before.shape.nx; ny = after.shape.ny ∙ before.shape.ny; width = after.shape.width ∙ before.shape.width };
+    shape = then_shape old heights new before.shape after.shape;
     meant = λ spot on r. elim (split spot r) [
       | inl q ↦ after.meant spot on q
       | inr w ↦ after.others spot on w.1 ∙ before.meant spot on w.0
@@ -119,22 +96,13 @@ module _ (area : FieldNumbers) (number : Spot → ℤ) where
       filled_one (IsHoleBefore side depth n) (IsHoleBefore side depth (n + 1)) old heights new same before (HoleAt side n depth) v sets is (hole_split side depth n)
       (λ other w. let below = w.1 in (w.0, omega arith, w.2)) (n, omega arith, refl)
 
-  pub cells_none : (j : ℕ) (heights : FieldNumbers) → Fills area number (IsCellBefore 0 j) heights heights
-  cells_none j heights = filled_none (IsCellBefore 0 j) heights (λ spot on w. let below = w.1 in absurd (omega arith))
-
-  pub holes_none : (side : Side) (depth : ℕ) (heights : FieldNumbers) → Fills area number (IsHoleBefore side depth 0) heights heights
-  holes_none side depth heights = filled_none (IsHoleBefore side depth 0) heights (λ spot on w. let below = w.1 in absurd (omega arith))
-
-  pub rows_none : (heights : FieldNumbers) → Fills area number (IsCellBelow 0) heights heights
-  rows_none heights = filled_none (IsCellBelow 0) heights (λ spot on w. let below = w.2 in absurd (omega arith))
-
   -- one row more
   on_column : (spot : Spot) (i k : ℕ) → IsSpot area spot → spot ≡ CellAt i k → IsSpot area (CellAt i k)
   on_column spot i k on e = subst (IsSpot area) e on
 
   pub filled_row : (j : ℕ) (old heights new : FieldNumbers) → Fills area number (IsCellBelow j) old heights → Fills area number (IsCellBefore area.nx j) heights new → Fills area number (IsCellBelow (j + 1)) old new
   filled_row j old heights new before after = record {
-    shape = record { nx = after.shape.nx ∙ before.shape.nx; ny = after.shape.ny ∙ before.shape.ny; width = after.shape.width ∙ before.shape.width };
+    shape = then_shape old heights new before.shape after.shape;
     meant = λ spot on w. elim (cases_eq w.1 j) [
       | inl e ↦ let inside = on_column spot w.0 w.1 on w.3 in after.meant spot on (w.0, inside.0, w.3 ∙ ap (λ (k : ℕ). CellAt w.0 k) e)
       | inr ne ↦
@@ -204,7 +172,7 @@ module _ (area : FieldNumbers) (number : Spot → ℤ) where
 
 pub raised_range : (area : FieldNumbers) (layers : List LayerNumbers) (P : Spot → Type 0) (old new : FieldNumbers) → IsSameShape area old → Fills area (height_at area layers) P old new → AreHeights old → ((spot : Spot) → P spot ⊎ (P spot → ⊥)) → AreHeights new
 raised_range area layers P old new same is range decide spot on =
-    let back = spot_same new area (back_shape new area (record { nx = is.shape.nx ∙ same.nx; ny = is.shape.ny ∙ same.ny; width = is.shape.width ∙ same.width })) spot on in
+    let back = spot_same new area (back_shape area new (then_shape area old new same is.shape)) spot on in
     elim (decide spot) [
       | inl p ↦ subst IsHeight (sym (is.meant spot back p)) (height_range (256 * amount (column_water layers spot) / amount (number_at area spot)) (is_wet area spot))
       | inr never ↦ subst IsHeight (sym (is.others spot back never)) (range spot (spot_same area old same spot back))
@@ -224,30 +192,31 @@ is_near (HoleAt side k depth) = elim (cases_eq depth 1) [
   | inr ne ↦ inr (λ w. ne (ap depth_of w.2))
 ]
 
+is_close : (spot : Spot) → IsClose spot ⊎ (IsClose spot → ⊥)
+is_close spot = elim (is_cell spot) [
+  | inl cell ↦ inl (inl cell)
+  | inr not_cell ↦ elim (is_near spot) [ inl near ↦ inl (inr near) | inr not_near ↦ inr (λ close. elim close [ inl cell ↦ not_cell cell | inr near ↦ not_near near ]) ]
+]
+
+is_read : (zone : Zone) (spot : Spot) → IsRead zone spot ⊎ (IsRead zone spot → ⊥)
+is_read Inner spot = is_cell spot
+is_read Rim spot = is_close spot
+
 -- a basin with other heights
-kept : (P : Spot → Type 0) → ((spot : Spot) → P spot ⊎ (P spot → ⊥)) → (basin : Basin) (layers : List LayerNumbers) (heights : FieldNumbers) → IsBasin basin → Fills basin.area (height_at basin.area layers) P basin.heights heights → IsBasin (record basin { heights = heights })
-kept P decide basin layers heights is to = record {
+pub raised_kept : (zone : Zone) (basin : Basin) (layers : List LayerNumbers) (heights : FieldNumbers) → IsBasin basin → Fills basin.area (height_at basin.area layers) (IsRead zone) basin.heights heights → IsBasin (record basin { heights = heights })
+raised_kept zone basin layers heights is to = record {
   columns = is.columns;
   rows = is.rows;
   width = is.width;
   shape = is.shape;
   areas = is.areas;
-  alike = record { nx = to.shape.nx ∙ is.alike.nx; ny = to.shape.ny ∙ is.alike.ny; width = to.shape.width ∙ is.alike.width };
-  heights = raised_range basin.area layers P basin.heights heights is.alike to is.heights decide;
+  alike = then_shape basin.area basin.heights heights is.alike to.shape;
+  heights = raised_range basin.area layers (IsRead zone) basin.heights heights is.alike to is.heights (is_read zone);
 }
 
-pub cells_kept : (basin : Basin) (layers : List LayerNumbers) (heights : FieldNumbers) → IsBasin basin → Fills basin.area (height_at basin.area layers) IsCell basin.heights heights → IsBasin (record basin { heights = heights })
-cells_kept = kept IsCell is_cell
-
-pub near_kept : (basin : Basin) (layers : List LayerNumbers) (heights : FieldNumbers) → IsBasin basin → Fills basin.area (height_at basin.area layers) IsNear basin.heights heights → IsBasin (record basin { heights = heights })
-near_kept = kept IsNear is_near
-
 -- cells, and then the holes next to them
-pub close_raised : (area own : FieldNumbers) (layers : List LayerNumbers) (heights new : FieldNumbers) → own ≡ area → ((spot : Spot) → IsSpot area spot → IsCell spot → number_at heights spot ≡ height_at area layers spot) → Fills own (height_at own layers) IsNear heights new
-    → (spot : Spot) → IsSpot area spot → IsClose spot → number_at new spot ≡ height_at area layers spot
-close_raised area own layers heights new same cells near spot on close =
-    let to = subst (λ (a : FieldNumbers). Fills a (height_at a layers) IsNear heights new) same near in
-    elim (is_near spot) [
-      | inl p ↦ to.meant spot on p
-      | inr never ↦ to.others spot on never ∙ cells spot on (elim close [ inl w ↦ w | inr p ↦ absurd (never p) ])
-    ]
+pub close_filled : (area : FieldNumbers) (number : Spot → ℤ) (old heights new : FieldNumbers) → Fills area number IsCell old heights → Fills area number IsNear heights new → Fills area number IsClose old new
+close_filled area number old heights new cells near =
+    filled_more area number IsCell IsNear IsClose old heights new cells near
+    (λ spot close. elim (is_near spot) [ inl p ↦ inl p | inr never ↦ inr (elim close [ inl w ↦ w | inr p ↦ absurd (never p) ], never) ])
+    (λ spot cell. inl cell) (λ spot p. inr p)

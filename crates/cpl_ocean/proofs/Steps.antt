@@ -1,5 +1,5 @@
 -- The parts of a step of a piece.
-use Rattle.std.proofs.Common.{◌≡◌, ◌∙◌, refl, sym, ap, subst, ℕ, ◌+◌, ◌-◌, ◌<◌, arith, inl, inr, Bool, true, false, List, length}
+use Rattle.std.proofs.Common.{◌≡◌, ◌∙◌, refl, sym, ap, subst, ℕ, ◌+◌, ◌-◌, ◌*◌, ◌<◌, ◌≤◌, arith, inl, inr, List, length}
 use Rattle.std.specs.Prelude.{ℤ, pos, nat_lt, nat_le, if◌then◌else◌}
 use Rattle.std.proofs.lemmas.Bool.{leb-false, ltb-false}
 use Rattle.cpl_mosaic.specs.declared.parts.Side.{Side}
@@ -14,10 +14,13 @@ use Rattle.cpl_ocean.specs.declared.basin.Basin.{Basin}
 use Rattle.cpl_ocean.specs.declared.fields.Fields.{Fields}
 use Rattle.cpl_ocean.specs.Columns.{IsCell, IsClose, height_at}
 use Rattle.cpl_ocean.specs.Flows.{AreSalty, behind, beyond, flow_out, is_open, next_number, transported}
-use Rattle.cpl_ocean.specs.Layers.{EachLayer, LayerNumbers, layer_at, salty_at}
+use Rattle.cpl_ocean.specs.Layers.{AreLayersOf, EachLayer, IsLayerOf, LayerNumbers, layer_at, salty_at}
 use Rattle.cpl_ocean.specs.Pieces.{OceanNumbers, Transports}
-use Rattle.cpl_ocean.specs.Sweeps.{Computes, IsInner, IsRim, SweepsLayer}
-use Rattle.cpl_ocean.proofs.Around.{out_on}
+use Rattle.cpl_ocean.specs.Sweeps.{CanSweep, Computes, IsBasin, IsInner, SweepsLayer}
+use Rattle.cpl_ocean.specs.Zones.{IsIn, IsRead}
+use Rattle.cpl_ocean.specs.declared.zone.Zone.{Zone}
+use Rattle.cpl_ocean.specs.declared.zone.Zone.TheVariants.{Inner, Rim}
+use Rattle.cpl_ocean.proofs.Around.{choose, out_on}
 
 -- what moves through a side depends on the heights of the two columns beside it alone
 same_flow : (area : FieldNumbers) (height other : Spot → ℤ) (slope : ℕ) (fields : Fields) (i j : ℕ) (side : Side) → height (CellAt i j) ≡ other (CellAt i j) → height (out_from area i j side 1) ≡ other (out_from area i j side 1) → flow_out area height slope fields i j side ≡ flow_out area other slope fields i j side
@@ -53,83 +56,60 @@ computes_as area next other P old new is same = record {
 
 -- what lies across a side of a cell is a cell, or a hole next to the piece
 pub close_out : (area : FieldNumbers) (i j : ℕ) (side : Side) → IsSpot area (CellAt i j) → IsClose (out_from area i j side 1)
-close_out area i j W on = pick (nat_le 1 i) refl
-  where
-    pick : (b : Bool) → nat_le 1 i ≡ b → IsClose (if b then CellAt (i - 1) j else HoleAt W j (1 - i))
-    pick true e = inl (i - 1, j, refl)
-    pick false e = let l = leb-false 1 i e in inr (W, j, ap (λ (d : ℕ). HoleAt W j d) (omega arith))
-close_out area i j E on = pick (nat_lt (i + 1) area.nx) refl
-  where
-    pick : (b : Bool) → nat_lt (i + 1) area.nx ≡ b → IsClose (if b then CellAt (i + 1) j else HoleAt E j (i + 1 + 1 - area.nx))
-    pick true e = inl (i + 1, j, refl)
-    pick false e = let l = ltb-false (i + 1) area.nx e in inr (E, j, ap (λ (d : ℕ). HoleAt E j d) (omega arith))
-close_out area i j S on = pick (nat_le 1 j) refl
-  where
-    pick : (b : Bool) → nat_le 1 j ≡ b → IsClose (if b then CellAt i (j - 1) else HoleAt S i (1 - j))
-    pick true e = inl (i, j - 1, refl)
-    pick false e = let l = leb-false 1 j e in inr (S, i, ap (λ (d : ℕ). HoleAt S i d) (omega arith))
-close_out area i j N on = pick (nat_lt (j + 1) area.ny) refl
-  where
-    pick : (b : Bool) → nat_lt (j + 1) area.ny ≡ b → IsClose (if b then CellAt i (j + 1) else HoleAt N i (j + 1 + 1 - area.ny))
-    pick true e = inl (i, j + 1, refl)
-    pick false e = let l = ltb-false (j + 1) area.ny e in inr (N, i, ap (λ (d : ℕ). HoleAt N i d) (omega arith))
+close_out area i j W on =
+    choose IsClose (nat_le 1 i) (CellAt (i - 1) j) (HoleAt W j (1 - i)) (λ e. inl (i - 1, j, refl)) (λ e. let l = leb-false 1 i e in inr (W, j, ap (HoleAt W j) (omega arith)))
+close_out area i j E on =
+    choose IsClose (nat_lt (i + 1) area.nx) (CellAt (i + 1) j) (HoleAt E j (i + 1 + 1 - area.nx)) (λ e. inl (i + 1, j, refl)) (λ e. let l = ltb-false (i + 1) area.nx e in inr (E, j, ap (HoleAt E j) (omega arith)))
+close_out area i j S on =
+    choose IsClose (nat_le 1 j) (CellAt i (j - 1)) (HoleAt S i (1 - j)) (λ e. inl (i, j - 1, refl)) (λ e. let l = leb-false 1 j e in inr (S, i, ap (HoleAt S i) (omega arith)))
+close_out area i j N on =
+    choose IsClose (nat_lt (j + 1) area.ny) (CellAt i (j + 1)) (HoleAt N i (j + 1 + 1 - area.ny)) (λ e. inl (i, j + 1, refl)) (λ e. let l = ltb-false (j + 1) area.ny e in inr (N, i, ap (HoleAt N i) (omega arith)))
 
 -- across a side of an inner cell it is a cell
-pub inner_out : (area : FieldNumbers) (i j : ℕ) (side : Side) → IsInner area i j → IsCell (out_from area i j side 1)
-inner_out area i j W is = pick (nat_le 1 i) refl
-  where
-    pick : (b : Bool) → nat_le 1 i ≡ b → IsCell (if b then CellAt (i - 1) j else HoleAt W j (1 - i))
-    pick true e = (i - 1, j, refl)
-    pick false e = let l = leb-false 1 i e in let west = is.west in absurd (omega arith)
-inner_out area i j E is = pick (nat_lt (i + 1) area.nx) refl
-  where
-    pick : (b : Bool) → nat_lt (i + 1) area.nx ≡ b → IsCell (if b then CellAt (i + 1) j else HoleAt E j (i + 1 + 1 - area.nx))
-    pick true e = (i + 1, j, refl)
-    pick false e = let l = ltb-false (i + 1) area.nx e in let east = is.east in absurd (omega arith)
-inner_out area i j S is = pick (nat_le 1 j) refl
-  where
-    pick : (b : Bool) → nat_le 1 j ≡ b → IsCell (if b then CellAt i (j - 1) else HoleAt S i (1 - j))
-    pick true e = (i, j - 1, refl)
-    pick false e = let l = leb-false 1 j e in let south = is.south in absurd (omega arith)
-inner_out area i j N is = pick (nat_lt (j + 1) area.ny) refl
-  where
-    pick : (b : Bool) → nat_lt (j + 1) area.ny ≡ b → IsCell (if b then CellAt i (j + 1) else HoleAt N i (j + 1 + 1 - area.ny))
-    pick true e = (i, j + 1, refl)
-    pick false e = let l = ltb-false (j + 1) area.ny e in let north = is.north in absurd (omega arith)
+inner_out : (area : FieldNumbers) (i j : ℕ) (side : Side) → IsInner area i j → IsCell (out_from area i j side 1)
+inner_out area i j W is =
+    choose IsCell (nat_le 1 i) (CellAt (i - 1) j) (HoleAt W j (1 - i)) (λ e. (i - 1, j, refl)) (λ e. let l = leb-false 1 i e in let west = is.west in absurd (omega arith))
+inner_out area i j E is =
+    choose IsCell (nat_lt (i + 1) area.nx) (CellAt (i + 1) j) (HoleAt E j (i + 1 + 1 - area.nx)) (λ e. (i + 1, j, refl)) (λ e. let l = ltb-false (i + 1) area.nx e in let east = is.east in absurd (omega arith))
+inner_out area i j S is =
+    choose IsCell (nat_le 1 j) (CellAt i (j - 1)) (HoleAt S i (1 - j)) (λ e. (i, j - 1, refl)) (λ e. let l = leb-false 1 j e in let south = is.south in absurd (omega arith))
+inner_out area i j N is =
+    choose IsCell (nat_lt (j + 1) area.ny) (CellAt i (j + 1)) (HoleAt N i (j + 1 + 1 - area.ny)) (λ e. (i, j + 1, refl)) (λ e. let l = ltb-false (j + 1) area.ny e in let north = is.north in absurd (omega arith))
+
+-- the heights of a cell of a zone and of what lies across its sides are read
+cell_read : (zone : Zone) (i j : ℕ) → IsRead zone (CellAt i j)
+cell_read Inner i j = (i, j, refl)
+cell_read Rim i j = inl (i, j, refl)
+
+out_read : (zone : Zone) (area : FieldNumbers) (i j : ℕ) (side : Side) → IsSpot area (CellAt i j) → IsIn zone area i j → IsRead zone (out_from area i j side 1)
+out_read Inner area i j side on is = inner_out area i j side is
+out_read Rim area i j side on is = close_out area i j side on
 
 -- the layers are swept with heights that are those of the columns
-transports : (P : FieldNumbers → ℕ → ℕ → Type 0) (Q : Spot → Type 0) (old : OceanNumbers) (basin : Basin) (layers : List LayerNumbers) (slope : ℕ) → basin.area ≡ old.area → EachLayer (SweepsLayer basin slope (P basin.area)) old.layers layers
-    → ((spot : Spot) → IsSpot old.area spot → Q spot → number_at basin.heights spot ≡ height_at old.area old.layers spot)
-    → ((i j : ℕ) → IsSpot old.area (CellAt i j) → P old.area i j → Q (CellAt i j))
-    → ((i j : ℕ) (side : Side) → IsSpot old.area (CellAt i j) → P old.area i j → Q (out_from old.area i j side 1))
-    → ((i j : ℕ) (side : Side) → IsSpot old.area (CellAt i j) → IsSpot old.area (out_from old.area i j side 1))
-    → Transports slope (P old.area) old (record { area = basin.area; layers = layers })
-transports P Q old basin layers slope same swept heights cell out inside = record {
+pub transports : (zone : Zone) (old : OceanNumbers) (basin : Basin) (layers : List LayerNumbers) (slope : ℕ) → old.area.width ≡ 2 → basin.area ≡ old.area → EachLayer (SweepsLayer basin slope (IsIn zone basin.area)) old.layers layers
+    → ((spot : Spot) → IsSpot old.area spot → IsRead zone spot → number_at basin.heights spot ≡ height_at old.area old.layers spot)
+    → Transports slope (IsIn zone old.area) old (record { area = basin.area; layers = layers })
+transports zone old basin layers slope width same swept heights = record {
   area = same;
   count = swept.count;
   fields = λ l less. let to = swept.each l less in to.fields;
   left = λ l less.
       let to = swept.each l less in
       let fields = (layer_at old.layers l).fields in
-      let left = subst (λ (area : FieldNumbers). Computes area (transported area (number_at basin.heights) slope fields) (P area) (layer_at old.layers l).left (layer_at layers l).left) same to.left in
-      computes_as old.area (transported old.area (number_at basin.heights) slope fields) (transported old.area (height_at old.area old.layers) slope fields) (P old.area) (layer_at old.layers l).left (layer_at layers l).left left
-      (λ i j on p. same_transported old.area (number_at basin.heights) (height_at old.area old.layers) slope fields i j (heights (CellAt i j) on (cell i j on p)) (λ side. heights (out_from old.area i j side 1) (inside i j side on) (out i j side on p)));
+      let left = subst (λ (area : FieldNumbers). Computes area (transported area (number_at basin.heights) slope fields) (IsIn zone area) (layer_at old.layers l).left (layer_at layers l).left) same to.left in
+      computes_as old.area (transported old.area (number_at basin.heights) slope fields) (transported old.area (height_at old.area old.layers) slope fields) (IsIn zone old.area) (layer_at old.layers l).left (layer_at layers l).left left
+      (λ i j on is. same_transported old.area (number_at basin.heights) (height_at old.area old.layers) slope fields i j (heights (CellAt i j) on (cell_read zone i j))
+      (λ side. heights (out_from old.area i j side 1) (out_on old.area i j side 1 on (omega arith) (omega arith)) (out_read zone old.area i j side on is)));
 }
 
-pub transports_inner : (old : OceanNumbers) (basin : Basin) (layers : List LayerNumbers) (slope : ℕ) → old.area.width ≡ 2 → basin.area ≡ old.area → EachLayer (SweepsLayer basin slope (IsInner basin.area)) old.layers layers
-    → ((spot : Spot) → IsSpot old.area spot → IsCell spot → number_at basin.heights spot ≡ height_at old.area old.layers spot)
-    → Transports slope (IsInner old.area) old (record { area = basin.area; layers = layers })
-transports_inner old basin layers slope width same swept heights =
-    transports IsInner IsCell old basin layers slope same swept heights (λ i j on is. (i, j, refl)) (λ i j side on is. inner_out old.area i j side is) (λ i j side on. out_on old.area i j side 1 on (omega arith) (omega arith))
-
-pub transports_rim : (old : OceanNumbers) (basin : Basin) (layers : List LayerNumbers) (slope : ℕ) → old.area.width ≡ 2 → basin.area ≡ old.area → EachLayer (SweepsLayer basin slope (IsRim basin.area)) old.layers layers
-    → ((spot : Spot) → IsSpot old.area spot → IsClose spot → number_at basin.heights spot ≡ height_at old.area old.layers spot)
-    → Transports slope (IsRim old.area) old (record { area = basin.area; layers = layers })
-transports_rim old basin layers slope width same swept heights =
-    transports IsRim IsClose old basin layers slope same swept heights (λ i j on is. inl (i, j, refl)) (λ i j side on is. close_out old.area i j side on) (λ i j side on. out_on old.area i j side 1 on (omega arith) (omega arith))
-
 -- what is asked of the layers, by other names of the areas and of the list
-pub amounts_by : (area own : FieldNumbers) (items layers : List LayerNumbers) → own ≡ area → layers ≡ items → ((l : ℕ) → l < length items → AreSalty area (layer_at items l).fields) → (l : ℕ) → l < length layers → AreSalty own (layer_at layers l).fields
-amounts_by area own items layers same is amounts =
-    subst (λ (list : List LayerNumbers). (l : ℕ) → l < length list → AreSalty own (layer_at list l).fields) (sym is)
-    (subst (λ (a : FieldNumbers). (l : ℕ) → l < length items → AreSalty a (layer_at items l).fields) (sym same) amounts)
+pub can_sweep : (area : FieldNumbers) (basin : Basin) (slope : ℕ) (items layers : List LayerNumbers) → basin.area ≡ area → layers ≡ items → slope ≤ 40 → IsBasin basin → AreLayersOf area items → ((l : ℕ) → l < length items → AreSalty area (layer_at items l).fields)
+    → (l : ℕ) → l < length layers → CanSweep basin slope (layer_at layers l)
+can_sweep area basin slope items layers same is low of shapes amounts =
+    subst (λ (list : List LayerNumbers). (l : ℕ) → l < length list → CanSweep basin slope (layer_at list l)) (sym is)
+    (λ l less.
+    let layer = layer_at items l in
+    let shape = subst (λ (a : FieldNumbers). IsLayerOf a layer) (sym same) (shapes l less) in record {
+      from = record { low = low; columns = of; shapes = shape.fields; salty = subst (λ (a : FieldNumbers). AreSalty a layer.fields) (sym same) (amounts l less) };
+      count = shape.count ∙ (λ t. of.columns t * of.rows t);
+    })

@@ -1,5 +1,5 @@
 -- Cells of all layers, stored one after the other.
-use Rattle.std.proofs.Common.{◌≡◌, ◌≢◌, ◌∙◌, refl, sym, ap, subst, ℕ, ◌+◌, ◌*◌, ◌<◌, ◌≤◌, ◌⊎◌, arith, inl, inr, List, length, get_or, slice_set, get_or-set_same, get_or-set_other}
+use Rattle.std.proofs.Common.{◌≡◌, ◌≢◌, ◌∙◌, refl, sym, ap, subst, ℕ, ◌+◌, ◌*◌, ◌<◌, ◌⊎◌, arith, inl, inr, List, length, get_or, slice_set, get_or-set_same, get_or-set_other}
 use Rattle.std.proofs.lemmas.Bool.{cases_eq}
 use Rattle.std.proofs.lemmas.List.{length-set}
 use Rattle.cpl_mosaic.specs.declared.parts.Side.{Side}
@@ -10,8 +10,8 @@ use Rattle.cpl_ocean.specs.declared.fields.Fields.{Fields}
 use Rattle.cpl_transport.specs.Salts.{IsSalty, nothing}
 use Rattle.cpl_transport.specs.Cells.{mixed_cell}
 use Rattle.cpl_ocean.specs.Columns.{AreLeft, column_left}
-use Rattle.cpl_ocean.specs.Layers.{AreAlike, AreLayersOf, AreOf, IsLayerOf, LayerNumbers, SetsCell, layer_at, no_layer, salty_at}
-use Rattle.cpl_ocean.specs.Mixed.{IsAnyCell, IsMixedAbove, IsMixedBefore, IsMixedBelow, Mixes}
+use Rattle.cpl_ocean.specs.Layers.{AreAlike, AreOf, IsLayerOf, LayerNumbers, SetsCell, layer_at, no_layer, salty_at}
+use Rattle.cpl_ocean.specs.Mixed.{IsMixedAbove, IsMixedBefore, IsMixedBelow, Mixes}
 use Rattle.cpl_ocean.proofs.Around.{spot_same}
 
 pub then_shape : (f g h : FieldNumbers) → IsSameShape f g → IsSameShape g h → IsSameShape f h
@@ -74,15 +74,20 @@ any_layer P layers l layer within there each k = elim (cases_eq k l) [
   | inr ne ↦ subst (P k) (sym (layer_other layers l k layer ne)) (each k)
 ]
 
-abbrev column : Spot → ℕ
+-- the column or the place of a spot, its row, its depth beyond the piece, and which of both kinds it is
+abbrev pub column : Spot → ℕ
 column (CellAt i j) = i
-column (HoleAt side k depth) = 0
+column (HoleAt side k depth) = k
 
-abbrev row : Spot → ℕ
+abbrev pub row : Spot → ℕ
 row (CellAt i j) = j
-row (HoleAt side k depth) = 0
+row (HoleAt side k depth) = k
 
-abbrev kind : Spot → ℕ
+abbrev pub depth_of : Spot → ℕ
+depth_of (CellAt i j) = 0
+depth_of (HoleAt side k depth) = depth
+
+abbrev pub kind : Spot → ℕ
 kind (CellAt i j) = 0
 kind (HoleAt side k depth) = 1
 
@@ -94,17 +99,6 @@ abbrev IsThis : (m n o l i j : ℕ) → Type 0
 IsThis m n o l i j = (l ≡ m) × (i ≡ n) × (j ≡ o)
 
 module _ (area : FieldNumbers) (mix : ℕ) where
-  pub mixes_none : (P : (l i j : ℕ) → Type 0) (layers : List LayerNumbers) → AreLayersOf area layers → ((l i j : ℕ) → l < length layers → IsSpot area (CellAt i j) → P l i j → ⊥) → Mixes area mix P layers layers
-  mixes_none P layers of none = record {
-    count = refl;
-    shapes = of;
-    left = λ l. refl;
-    faces = λ l less. refl;
-    meant = λ l i j less on p. absurd (none l i j less on p);
-    others = λ l i j less on never. refl;
-    holes = λ l side k depth less on. refl;
-  }
-
   -- one cell more
   module _ (P Q : (l i j : ℕ) → Type 0) (old layers : List LayerNumbers) (before : Mixes area mix P old layers) (m n o : ℕ) (within : m < length layers) (here : IsSpot area (CellAt n o)) (layer : LayerNumbers) (it : Salty) (sets : SetsCell (layer_at layers m).fields layer.fields n o it) (left : layer.left ≡ (layer_at layers m).left) (is : it ≡ mixed_cell mix (length old) (column_left old (o * area.nx + n)) m) where
     other_cell : (l i j : ℕ) → l < length old → IsSpot area (CellAt i j) → (IsThis m n o l i j → ⊥) → salty_at (layer_at (slice_set layers m layer) l).fields (CellAt i j) ≡ salty_at (layer_at layers l).fields (CellAt i j)
@@ -161,15 +155,6 @@ module _ (area : FieldNumbers) (mix : ℕ) where
   pub left_same : (old layers : List LayerNumbers) (place : ℕ) → length layers ≡ length old → ((k : ℕ) → (layer_at layers k).left ≡ (layer_at old k).left) → AreLeft old place → AreLeft layers place
   left_same old layers place count left are l less = subst (λ (cells : List Salty). IsSalty (get_or cells place nothing)) (sym (left l)) (are l (omega arith))
 
-  pub row_none : (m n : ℕ) (layers : List LayerNumbers) → AreLayersOf area layers → Mixes area mix (IsMixedBefore m 0 n) layers layers
-  row_none m n layers of = mixes_none (IsMixedBefore m 0 n) layers of (λ l i j less on p. let below = p.column in absurd (omega arith))
-
-  pub rows_none : (m : ℕ) (layers : List LayerNumbers) → AreLayersOf area layers → Mixes area mix (IsMixedBelow m 0) layers layers
-  rows_none m layers of = mixes_none (IsMixedBelow m 0) layers of (λ l i j less on p. let below = p.row in absurd (omega arith))
-
-  pub layers_none : (layers : List LayerNumbers) → AreLayersOf area layers → Mixes area mix (IsMixedAbove 0) layers layers
-  layers_none layers of = mixes_none (IsMixedAbove 0) layers of (λ l i j less on p. absurd (omega arith))
-
   row_split : (m n o l i j : ℕ) → IsMixedBefore m (n + 1) o l i j → IsThis m n o l i j ⊎ (IsMixedBefore m n o l i j × (IsThis m n o l i j → ⊥))
   row_split m n o l i j p = elim (cases_eq i n) [
     | inl e ↦ inl (p.layer, e, p.row)
@@ -221,15 +206,4 @@ module _ (area : FieldNumbers) (mix : ℕ) where
         after.others l i j (omega arith) on (λ q. let layer = q.layer in never (omega arith))
         ∙ before.others l i j less on (λ p. let above : l < m = p in never (omega arith));
     holes = λ l side k depth less on. let count = before.count in after.holes l side k depth (omega arith) on ∙ before.holes l side k depth less on;
-  }
-
-  pub layers_all : (m : ℕ) (old new : List LayerNumbers) → length old ≤ m → Mixes area mix (IsMixedAbove m) old new → Mixes area mix IsAnyCell old new
-  layers_all m old new all is = record {
-    count = is.count;
-    shapes = is.shapes;
-    left = is.left;
-    faces = is.faces;
-    meant = λ l i j less on any. is.meant l i j less on (omega arith);
-    others = λ l i j less on never. absurd (never tt);
-    holes = is.holes;
   }

@@ -1,13 +1,13 @@
 -- Sweeps over the cells of a piece.
-use Rattle.std.specs.Prelude.{◌≡◌, ℕ, List}
+use Rattle.std.specs.Prelude.{◌≡◌, ℕ, ◌*◌, ◌≤◌, List, length}
 use Rattle.cpl_field.specs.Spots.{FieldNumbers, IsShape, IsSameShape, number_at}
 use Rattle.cpl_field.specs.Sweeps.{ComputesFor, IsInside, IsOnRim}
 use Rattle.cpl_ice.specs.declared.parts.Salty.{Salty}
 use Rattle.cpl_transport.specs.Salts.{nothing}
 use Rattle.cpl_ocean.specs.declared.basin.Basin.{Basin}
 use Rattle.cpl_ocean.specs.declared.fields.Fields.{Fields}
-use Rattle.cpl_ocean.specs.Flows.{AreHeights, AreOceanAreas, transported}
-use Rattle.cpl_ocean.specs.Layers.{LayerNumbers}
+use Rattle.cpl_ocean.specs.Flows.{AreHeights, AreOceanAreas, AreSalty, transported}
+use Rattle.cpl_ocean.specs.Layers.{AreOf, LayerNumbers}
 
 -- a cell with at least two cells of the piece between it and each of the piece's edges
 abbrev pub IsInner : FieldNumbers → (i j : ℕ) → Type 0
@@ -30,6 +30,18 @@ pub record IsBasin (basin : Basin) : Type 0 where
   pub areas : AreOceanAreas basin.area
   pub alike : IsSameShape basin.area basin.heights
   pub heights : AreHeights basin.heights
+
+-- what the transport of a layer is computed from
+pub record CanTransport (basin : Basin) (slope : ℕ) (fields : Fields) : Type 0 where
+  pub low : slope ≤ 40
+  pub columns : IsBasin basin
+  pub shapes : AreOf basin.area fields
+  pub salty : AreSalty basin.area fields
+
+-- a layer can be swept
+pub record CanSweep (basin : Basin) (slope : ℕ) (layer : LayerNumbers) : Type 0 where
+  pub from : CanTransport basin slope layer.fields
+  pub count : length layer.left ≡ basin.nx * basin.ny
 
 -- what the transport leaves in a cell, by heights that are kept
 abbrev pub left_in : Basin → (slope : ℕ) → Fields → (i j : ℕ) → Salty

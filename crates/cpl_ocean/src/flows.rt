@@ -6,8 +6,10 @@ ghost use Rattle.cpl_fixed.specs.Amounts.{amount};
 ghost use Rattle.cpl_transport.specs.Heights.{IsFaceNumber, IsHeight};
 ghost use Rattle.cpl_transport.specs.Salts.{AreSmall, IsSalty};
 ghost use Rattle.cpl_ocean.specs.Layers.{AreOf, salty_at};
-ghost use Rattle.cpl_ocean.specs.Flows.{AreHeights, AreSalty, behind, beyond, flow_out, is_open, next_number, transported};
+ghost use Rattle.cpl_ocean.specs.Flows.{AreHeights, behind, beyond, flow_out, is_open, next_number};
+ghost use Rattle.cpl_ocean.specs.Sweeps.{CanTransport, left_in};
 
+use crate::basin::Basin;
 use crate::fields::Fields;
 use cpl_field::{Faces, Field};
 use cpl_ice::{NOTHING, Salty};
@@ -89,25 +91,13 @@ fn beyond(area: &Field, fields: &Fields, i: u32, j: u32, side: Side) -> Salty
 }
 
 // What moves outward through a side of a cell.
-pub(crate) fn flow_out(
-    area: &Field,
-    heights: &Field,
-    slope: u32,
-    fields: &Fields,
-    i: u32,
-    j: u32,
-    side: Side,
-) -> Salty
-    requires slope { slope ≤ 40 }
-    requires cell { IsSpot area.now (CellAt i j) }
-    requires width { area.now.width ≡ 2 }
-    requires shape { IsSameShape area.now heights.now }
-    requires heights { AreHeights heights.now }
-    requires fields { AreOf area.now fields.now }
-    requires salty { AreSalty area.now fields.now }
-    ensures value { result ≡ flow_out area.now (number_at heights.now) slope fields.now i j side }
+fn flow_out(basin: &Basin, slope: u32, fields: &Fields, i: u32, j: u32, side: Side) -> Salty
+    requires from { CanTransport basin.now slope fields.now }
+    requires cell { IsSpot basin.now.area (CellAt i j) }
+    ensures value { result ≡ flow_out basin.now.area (number_at basin.now.heights) slope fields.now i j side }
     ensures small { AreSmall result }
 {
+    let (area, heights) = (&basin.area, &basin.heights);
     if !is_open(area, i, j, side) {
         return NOTHING;
     }
@@ -124,26 +114,14 @@ pub(crate) fn flow_out(
 }
 
 // What the transport leaves in a cell.
-pub(crate) fn transported(
-    area: &Field,
-    heights: &Field,
-    slope: u32,
-    fields: &Fields,
-    i: u32,
-    j: u32,
-) -> Salty
-    requires slope { slope ≤ 40 }
-    requires cell { IsSpot area.now (CellAt i j) }
-    requires width { area.now.width ≡ 2 }
-    requires shape { IsSameShape area.now heights.now }
-    requires heights { AreHeights heights.now }
-    requires fields { AreOf area.now fields.now }
-    requires salty { AreSalty area.now fields.now }
-    ensures { result ≡ transported area.now (number_at heights.now) slope fields.now i j }
+pub(crate) fn transported(basin: &Basin, slope: u32, fields: &Fields, i: u32, j: u32) -> Salty
+    requires from { CanTransport basin.now slope fields.now }
+    requires cell { IsSpot basin.now.area (CellAt i j) }
+    ensures { result ≡ left_in basin.now slope fields.now i j }
 {
-    let west = flow_out(area, heights, slope, fields, i, j, Side::W);
-    let east = flow_out(area, heights, slope, fields, i, j, Side::E);
-    let south = flow_out(area, heights, slope, fields, i, j, Side::S);
-    let north = flow_out(area, heights, slope, fields, i, j, Side::N);
+    let west = flow_out(basin, slope, fields, i, j, Side::W);
+    let east = flow_out(basin, slope, fields, i, j, Side::E);
+    let south = flow_out(basin, slope, fields, i, j, Side::S);
+    let north = flow_out(basin, slope, fields, i, j, Side::N);
     without(fields.get(i, j), sum_of_sides(west, east, south, north))
 }

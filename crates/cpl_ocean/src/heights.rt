@@ -6,10 +6,12 @@ ghost use Rattle.cpl_transport.specs.Heights.{IsHeight};
 ghost use Rattle.cpl_ocean.specs.Layers.{AreLayersOf};
 ghost use Rattle.cpl_ocean.specs.Flows.{AreHeights, AreOceanAreas};
 ghost use Rattle.cpl_ocean.specs.Sweeps.{IsBasin};
-ghost use Rattle.cpl_ocean.specs.Columns.{HasColumn, IsCell, IsCellBefore, IsCellBelow, IsClose, IsHoleBefore, IsNear, Fills, column_water, height_at};
+ghost use Rattle.cpl_ocean.specs.Columns.{HasColumn, IsCell, IsCellBefore, IsCellBelow, IsHoleBefore, IsNear, Fills, column_water, height_at};
+ghost use Rattle.cpl_ocean.specs.Zones.{IsRead};
 
 use crate::basin::Basin;
 use crate::layer::Layer;
+use crate::zone::Zone;
 use cpl_field::Field;
 use cpl_mosaic::Side;
 use cpl_transport::height;
@@ -138,30 +140,19 @@ fn raise_sides(area: &Field, nx: u32, ny: u32, layers: &[Layer], heights: &mut F
     raise_side(area, layers, Side::N, nx, heights);
 }
 
-/// The heights of the columns of all cells.
-pub(crate) fn raise_cells(basin: &mut Basin, layers: &[Layer])
+/// The heights of the columns that are read for a zone: of all cells and, for the rim, of the holes next to the piece.
+pub(crate) fn raise(basin: &mut Basin, zone: Zone, layers: &[Layer])
     requires basin { IsBasin basin.old }
     requires layers { AreLayersOf basin.old.area layers.now }
-    requires cells { (spot : Spot) → IsSpot basin.old.area spot → IsCell spot → HasColumn layers.now spot }
+    requires columns { (spot : Spot) → IsSpot basin.old.area spot → IsRead zone spot → HasColumn layers.now spot }
     ensures basin { IsBasin basin.new }
     ensures area { basin.new.area ≡ basin.old.area }
-    ensures heights { (spot : Spot) → IsSpot basin.old.area spot → IsCell spot
+    ensures heights { (spot : Spot) → IsSpot basin.old.area spot → IsRead zone spot
         → number_at basin.new.heights spot ≡ height_at basin.old.area layers.now spot }
 {
     raise_rows(&basin.area, basin.nx, basin.ny, layers, &mut basin.heights);
-}
-
-/// The same of all cells and of the holes next to the piece.
-pub(crate) fn raise_all(basin: &mut Basin, layers: &[Layer])
-    requires basin { IsBasin basin.old }
-    requires layers { AreLayersOf basin.old.area layers.now }
-    requires cells { (spot : Spot) → IsSpot basin.old.area spot → IsCell spot → HasColumn layers.now spot }
-    requires holes { (spot : Spot) → IsSpot basin.old.area spot → IsNear spot → HasColumn layers.now spot }
-    ensures basin { IsBasin basin.new }
-    ensures area { basin.new.area ≡ basin.old.area }
-    ensures heights { (spot : Spot) → IsSpot basin.old.area spot → IsClose spot
-        → number_at basin.new.heights spot ≡ height_at basin.old.area layers.now spot }
-{
-    raise_cells(basin, layers);
-    raise_sides(&basin.area, basin.nx, basin.ny, layers, &mut basin.heights);
+    match zone {
+        Zone::Inner => {}
+        Zone::Rim => raise_sides(&basin.area, basin.nx, basin.ny, layers, &mut basin.heights),
+    }
 }

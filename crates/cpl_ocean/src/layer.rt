@@ -4,17 +4,18 @@ ghost use Rattle.cpl_layout.specs.Owners.{IsPiece};
 ghost use Rattle.cpl_field.specs.Crossings.{IsFaceNumber, IsSideOf, SideAt, outward_at};
 ghost use Rattle.cpl_field.specs.Spots.{Spot, CellAt, HoleAt, IsSpot, IsSameShape, number_at};
 ghost use Rattle.cpl_transport.specs.Salts.{nothing};
-ghost use Rattle.cpl_ocean.specs.Flows.{AreSalty};
 ghost use Rattle.cpl_ocean.specs.Layers.{AreAlike, IsEmptyLayer, IsLayerOf, SetsCell, salty_at};
 ghost use Rattle.cpl_ocean.specs.Numbers.{DrivesLayer};
 ghost use Rattle.cpl_ocean.specs.Pieces.{ChangesField, ChangesSide, LoadsCells, LoadsHoles, field_in};
-ghost use Rattle.cpl_ocean.specs.Sweeps.{Computes, IsBasin, IsInner, IsRim, left_in};
+ghost use Rattle.cpl_ocean.specs.Sweeps.{CanSweep, IsBasin, SweepsLayer};
+ghost use Rattle.cpl_ocean.specs.Zones.{IsIn};
 
 use crate::basin::Basin;
 use crate::fields::Fields;
 use crate::loads::{load_cells, load_holes};
 use crate::numbers::drive;
-use crate::sweep::{sweep_inner, sweep_rim};
+use crate::sweep::sweep;
+use crate::zone::Zone;
 use cpl_field::{Faces, Field};
 use cpl_ice::{NOTHING, Salty};
 use cpl_layout::Piece;
@@ -125,30 +126,12 @@ impl Layer {
         self.fields.faces.set_side(i, j, side, x);
     }
 
-    /// Computes what the transport leaves in the cells that have two cells or more between them and each edge of the piece.
-    pub(crate) fn transport_inner(&mut self, basin: &Basin, slope: u32)
-        requires slope { slope ≤ 40 }
-        requires basin { IsBasin basin.now }
-        requires layer { IsLayerOf basin.now.area self.old }
-        requires salty { AreSalty basin.now.area self.old.fields }
-        requires left { length self.old.left ≡ basin.now.nx * basin.now.ny }
-        ensures fields { self.new.fields ≡ self.old.fields }
-        ensures left { Computes basin.now.area (left_in basin.now slope self.old.fields) (IsInner basin.now.area) self.old.left self.new.left }
+    /// Computes what the transport leaves in the cells of a zone.
+    pub(crate) fn transport(&mut self, basin: &Basin, slope: u32, zone: Zone)
+        requires { CanSweep basin.now slope self.old }
+        ensures { SweepsLayer basin.now slope (IsIn zone basin.now.area) self.old self.new }
     {
-        sweep_inner(basin, slope, &self.fields, &mut self.left);
-    }
-
-    /// Computes what it leaves in the other cells.
-    pub(crate) fn transport_rim(&mut self, basin: &Basin, slope: u32)
-        requires slope { slope ≤ 40 }
-        requires basin { IsBasin basin.now }
-        requires layer { IsLayerOf basin.now.area self.old }
-        requires salty { AreSalty basin.now.area self.old.fields }
-        requires left { length self.old.left ≡ basin.now.nx * basin.now.ny }
-        ensures fields { self.new.fields ≡ self.old.fields }
-        ensures left { Computes basin.now.area (left_in basin.now slope self.old.fields) (IsRim basin.now.area) self.old.left self.new.left }
-    {
-        sweep_rim(basin, slope, &self.fields, &mut self.left);
+        sweep(basin, slope, &self.fields, zone, &mut self.left);
     }
 
     /// Sets the numbers of the faces to what they are after a step.

@@ -13,5 +13,6 @@ mod numbers;
 mod piece;
 mod sweep;
 mod sweeps;
+mod zone;
 
 pub use piece::OceanPiece;

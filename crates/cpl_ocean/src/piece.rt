@@ -11,13 +11,15 @@ ghost use Rattle.cpl_ocean.specs.Flows.{AreOceanAreas};
 ghost use Rattle.cpl_ocean.specs.Layers.{IsEmptyLayer, layer_at, salty_at};
 ghost use Rattle.cpl_ocean.specs.Mixed.{IsAllLeft};
 ghost use Rattle.cpl_ocean.specs.Sweeps.{IsInner, IsRim};
+ghost use Rattle.cpl_ocean.specs.Zones.{IsIn, IsRead};
 ghost use Rattle.cpl_ocean.specs.Pieces.{ChangesCell, ChangesField, ChangesLayer, ChangesSide, Finishes, HasAmounts, IsEmptyOcean, LoadsCells, LoadsHoles, Transports, field_in, fields_at};
 
 use crate::basin::Basin;
-use crate::heights::{raise_all, raise_cells};
+use crate::heights::raise;
 use crate::layer::Layer;
 use crate::mixing::store;
-use crate::sweeps::{drive_layers, transport_inner, transport_rim};
+use crate::sweeps::{drive_layers, transport};
+use crate::zone::Zone;
 use cpl_field::{Faces, Field};
 use cpl_fixed::Rates;
 use cpl_ice::{Salty, ToIce};
@@ -145,6 +147,17 @@ impl OceanPiece {
         self.layers[layer as usize].set_face(i, j, side, x);
     }
 
+    // Computes what the transport leaves in the cells of a zone.
+    fn transport(&mut self, slope: u32, zone: Zone)
+        requires slope { slope ≤ 40 }
+        requires amounts { HasAmounts self.old }
+        requires columns { (spot : Spot) → IsSpot self.old.area spot → IsRead zone spot → HasColumn self.old.layers spot }
+        ensures { Transports slope (IsIn zone self.old.area) self.old self.new }
+    {
+        raise(&mut self.basin, zone, &self.layers);
+        transport(&self.basin, slope, zone, &mut self.layers);
+    }
+
     /// Computes what the transport leaves in the cells with at least two cells of the piece between them and each of its edges.
     /// It reads no hole, and takes no memory.
     pub fn interior(&mut self, rates: &Rates)
@@ -153,8 +166,7 @@ impl OceanPiece {
         requires columns { (spot : Spot) → IsSpot self.old.area spot → IsCell spot → HasColumn self.old.layers spot }
         ensures { Transports rates.now.slope (IsInner self.old.area) self.old self.new }
     {
-        raise_cells(&mut self.basin, &self.layers);
-        transport_inner(&self.basin, rates.slope, &mut self.layers);
+        self.transport(rates.slope, Zone::Inner);
     }
 
     /// Computes what it leaves in the other cells. It takes no memory.
@@ -164,8 +176,7 @@ impl OceanPiece {
         requires columns { (spot : Spot) → IsSpot self.old.area spot → IsClose spot → HasColumn self.old.layers spot }
         ensures { Transports rates.now.slope (IsRim self.old.area) self.old self.new }
     {
-        raise_all(&mut self.basin, &self.layers);
-        transport_rim(&self.basin, rates.slope, &mut self.layers);
+        self.transport(rates.slope, Zone::Rim);
     }
 
     /// Ends the step: the faces get their numbers, and the cells what the vertical exchange makes of what the transport left in
@@ -177,7 +188,8 @@ impl OceanPiece {
         requires left { IsAllLeft self.old.area self.old.layers }
         ensures { Finishes rates.now.slope rates.now.mix self.old self.new }
     {
-        raise_all(&mut self.basin, &self.layers);
+        // The faces read the heights that the rim does.
+        raise(&mut self.basin, Zone::Rim, &self.layers);
         drive_layers(&self.basin, rates.slope, &mut self.layers);
         let (nx, ny) = (self.basin.nx, self.basin.ny);
         store(&self.basin.area, rates.mix, &mut self.layers, nx, ny);

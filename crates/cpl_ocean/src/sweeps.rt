@@ -1,37 +1,22 @@
 // The parts of a step, layer by layer.
 ghost use Rattle.std.specs.Prelude.{◌≡◌, ◌<◌, ◌≤◌, ℕ, length};
 ghost use Rattle.cpl_field.specs.Spots.{number_at};
-ghost use Rattle.cpl_ocean.specs.Flows.{AreSalty};
 ghost use Rattle.cpl_ocean.specs.Layers.{AreLayersOf, EachLayer, layer_at};
 ghost use Rattle.cpl_ocean.specs.Numbers.{DrivesLayer};
-ghost use Rattle.cpl_ocean.specs.Sweeps.{IsBasin, IsInner, IsRim, SweepsLayer};
+ghost use Rattle.cpl_ocean.specs.Sweeps.{CanSweep, IsBasin, SweepsLayer};
+ghost use Rattle.cpl_ocean.specs.Zones.{IsIn};
 
 use crate::basin::Basin;
 use crate::layer::Layer;
+use crate::zone::Zone;
 
-/// Computes what the transport leaves in the inner cells of all layers.
-pub(crate) fn transport_inner(basin: &Basin, slope: u32, layers: &mut [Layer])
-    requires slope { slope ≤ 40 }
-    requires basin { IsBasin basin.now }
-    requires layers { AreLayersOf basin.now.area layers.old }
-    requires salty { (l : ℕ) → l < length layers.old → AreSalty basin.now.area (layer_at layers.old l).fields }
-    ensures { EachLayer (SweepsLayer basin.now slope (IsInner basin.now.area)) layers.old layers.new }
+/// Computes what the transport leaves in the cells of a zone in all layers.
+pub(crate) fn transport(basin: &Basin, slope: u32, zone: Zone, layers: &mut [Layer])
+    requires { (l : ℕ) → l < length layers.old → CanSweep basin.now slope (layer_at layers.old l) }
+    ensures { EachLayer (SweepsLayer basin.now slope (IsIn zone basin.now.area)) layers.old layers.new }
 {
     for l in 0..layers.len() {
-        layers[l].transport_inner(basin, slope);
-    }
-}
-
-/// Computes what it leaves in the other cells.
-pub(crate) fn transport_rim(basin: &Basin, slope: u32, layers: &mut [Layer])
-    requires slope { slope ≤ 40 }
-    requires basin { IsBasin basin.now }
-    requires layers { AreLayersOf basin.now.area layers.old }
-    requires salty { (l : ℕ) → l < length layers.old → AreSalty basin.now.area (layer_at layers.old l).fields }
-    ensures { EachLayer (SweepsLayer basin.now slope (IsRim basin.now.area)) layers.old layers.new }
-{
-    for l in 0..layers.len() {
-        layers[l].transport_rim(basin, slope);
+        layers[l].transport(basin, slope, zone);
     }
 }
 

@@ -15,7 +15,7 @@ bounds-left-first c =
 pub loop-i-preserved : goal.loop-i-preserved
 loop-i-preserved c =
     let basin = c.args.basin.now in
-    let is = c.requires.basin in
+    let is = c.requires.from.columns in
     let columns = is.columns in
     let rows = is.rows in
     computes_next nothing basin.area (left_in basin c.args.slope c.args.fields.now) c.args.from c.loop-i.i c.args.j c.args.left.now c.loop-i.left c.loop-i.invariant (c.requires.left ∙ (λ t. sym columns t * sym rows t)) (omega arith) (omega arith) (omega arith) c.transported.result (c.args.j * basin.nx + c.loop-i.i)
