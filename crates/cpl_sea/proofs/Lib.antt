@@ -11,6 +11,7 @@ pub mod Outs
 pub mod Looked
 pub mod Mixed
 pub mod Left
+pub mod Passed
 pub mod Ready
 pub mod Tops
 pub mod Entered

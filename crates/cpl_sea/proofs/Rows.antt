@@ -1,6 +1,7 @@
 -- Sums over layers and cells.
 use Rattle.std.proofs.Common.{◌≡◌, ◌∙◌, refl, sym, ap, subst, ℕ, zero, suc, ◌+◌, ◌*◌, ◌/◌, ◌%◌, ◌<◌, ◌≤◌, arith, inl, inr, List, length}
 use Rattle.std.specs.Prelude.{ℤ, pos, ◌+ℤ◌, ◌≤ℤ◌}
+use Rattle.std.proofs.Math.Nat.{mul-le-mul_right}
 use Rattle.std.proofs.lemmas.Int.{ints}
 use Rattle.std.proofs.lemmas.Nat.{div-mul-add, mod-mul-add, mul-add-lt}
 use Rattle.std.proofs.lemmas.List.FromFn.{length-map-range_with_len, get_or-map-range_with_len}
@@ -16,6 +17,12 @@ use Rattle.cpl_diffusion.proofs.Sums.{sum_to, sum_to-same, sum_to-add, total_of-
 -- a place of a layer lies within all
 pub place_below : (layers count layer n : ℕ) → layer < layers → n < count → layer * count + n < layers * count
 place_below layers count layer n l k = omega (arith, mul-add-lt layer count n layers l k)
+
+-- a layer begins behind those before it
+pub later_row : (count layer k w n : ℕ) → layer < k → w ≤ count → layer * count + w ≤ k * count + n
+later_row count layer k w n l le =
+    let more : (layer + 1) * count ≤ k * count = mul-le-mul_right count (omega arith) in
+    omega (arith, more)
 
 -- a sum over more
 sum_to-append : (f : ℕ → ℤ) (m n : ℕ) → sum_to f (m + n) ≡ sum_to f m +ℤ sum_to (λ k. f (m + k)) n

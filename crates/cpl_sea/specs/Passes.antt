@@ -1,5 +1,5 @@
 -- The passes of a step over the layers.
-use Rattle.std.specs.Prelude.{◌≡◌, false, ℕ, ◌+◌, ◌*◌, ◌<◌, ◌≤◌, List, length, ℤ, pos, nat_lt, slice_index_or, if◌then◌else◌}
+use Rattle.std.specs.Prelude.{◌≡◌, false, ℕ, ◌+◌, ◌*◌, ◌<◌, ◌≤◌, List, ℤ, pos, nat_lt, slice_index_or, if◌then◌else◌}
 use Rattle.cpl_fixed.specs.Amounts.{amount, at}
 use Rattle.cpl_ice.specs.declared.parts.Salty.{Salty}
 use Rattle.cpl_transport.specs.Heights.{height_of, next_face}
@@ -40,10 +40,10 @@ abbrev pub number_after : (slope : ℕ) → (heights : List ℤ) → Link → �
 number_after slope heights link u = if link.is_open then next_face slope u (at heights link.first) (at heights link.second) else pos 0
 
 -- what moves through a face of the layer whose cells begin at this place
-abbrev pub flow_in : List Salty → (begin : ℕ) → Link → ℤ → Salty
+abbrev pub flow_in : (cells : ℕ → Salty) → (begin : ℕ) → Link → ℤ → Salty
 flow_in cells begin link u =
     if link.is_open
-    then through u (salty_at cells (begin + link.behind_first)) (salty_at cells (begin + link.first)) (salty_at cells (begin + link.second)) (salty_at cells (begin + link.behind_second))
+    then through u (cells (begin + link.behind_first)) (cells (begin + link.first)) (cells (begin + link.second)) (cells (begin + link.behind_second))
     else nothing
 
 -- what moves out of a cell with these faces
@@ -72,11 +72,6 @@ pub record AreColumns (layers count whole : ℕ) : Type 0 where
   pub layers_most : layers ≤ MOST_LAYERS
   pub count_most : count ≤ MOST_CELLS
   pub all : whole ≡ layers * count
-
--- what moves through the faces of a layer, from what stands there before the step
-abbrev pub layer_flows : (slope : ℕ) → (heights : List ℤ) → List Link → (cells : List Salty) → (faces : List ℤ) → (layer f : ℕ) → Salty
-layer_flows slope heights links cells faces layer f =
-    flow_in cells (layer * length heights) (link_at links f) (number_after slope heights (link_at links f) (at faces (layer * length links + f)))
 
 -- the cell at a place of the three lists of a state
 abbrev pub top_at : (water heat salt : List ℤ) → ℕ → Salty

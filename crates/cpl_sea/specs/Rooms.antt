@@ -26,7 +26,9 @@ pub record IsSeaRoom (mesh : Mesh) (layers : ℕ) (room : SeaRoom) : Type 0 wher
   pub ready : AreReady (face_count mesh) room.cell_faces.items room.ready.items
   pub heights : length room.heights.items ≡ cell_count mesh
   pub flows : length room.flows.items ≡ layers * face_count mesh
-  pub cells : length room.cells.items ≡ layers * cell_count mesh
+  pub next_water : length room.next_water.items ≡ layers * cell_count mesh
+  pub next_heat : length room.next_heat.items ≡ layers * cell_count mesh
+  pub next_salt : length room.next_salt.items ≡ layers * cell_count mesh
   pub rest : length room.rest.items ≡ layers * BLOCK
 
 -- a state with another ocean
@@ -40,6 +42,8 @@ pub record HasSameRoom (old new : SeaRoom) : Type 0 where
   pub ready : new.ready ≡ old.ready
   pub heights : new.heights ≡ old.heights
   pub flows : new.flows ≡ old.flows
-  pub cells : new.cells ≡ old.cells
+  pub next_water : new.next_water ≡ old.next_water
+  pub next_heat : new.next_heat ≡ old.next_heat
+  pub next_salt : new.next_salt ≡ old.next_salt
   pub rest : new.rest ≡ old.rest
   pub flights : new.flights ≡ old.flights

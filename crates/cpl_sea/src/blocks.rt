@@ -3,13 +3,15 @@ ghost use Rattle.std.specs.Prelude.{◌≡◌, ◌+◌, ◌*◌, ◌<◌, ◌≤
 ghost use Rattle.cpl_fixed.specs.Amounts.{at};
 ghost use Rattle.cpl_ice.specs.declared.parts.Salty.{Salty};
 ghost use Rattle.cpl_transport.specs.Cells.{mixed_cell};
-ghost use Rattle.cpl_transport.specs.Heights.{IsFaceNumber, IsHeight};
-ghost use Rattle.cpl_transport.specs.Salts.{AreSmall, IsSalty, without};
-ghost use Rattle.cpl_sea.specs.Blocks.{AreMixed, AreReady, HaveMoved, left_in};
-ghost use Rattle.cpl_sea.specs.Passes.{AreColumns, AreSidesWithin, IsLinkWithin, IsSideWithin, cell_faces_at, column_at, link_at, number_after, out_of, salty_at, top_at};
+ghost use Rattle.cpl_transport.specs.Heights.{IsFaceNumber};
+ghost use Rattle.cpl_transport.specs.Salts.{AreSmall, IsSalty};
+ghost use Rattle.cpl_sea.specs.Before.{AreMixed, HaveMoved, IsLawful, cell_place, face_place, layer_numbers, left_by, left_in};
+ghost use Rattle.cpl_sea.specs.Blocks.{AreReady};
+ghost use Rattle.cpl_sea.specs.Passes.{AreColumns, AreSidesWithin, IsSideWithin, cell_faces_at, column_at, salty_at, top_at};
 
+use crate::before::{Before, Block};
 use crate::columns::mix_layer;
-use crate::links::{CellFaces, Link, SideFace};
+use crate::links::{CellFaces, SideFace};
 use crate::moving::{leave_layer, move_layer};
 use cpl_ice::Salty;
 use std::alloc::{AllocError, Global};
@@ -72,121 +74,76 @@ pub(crate) fn blocks_ready(alloc: Global, cell_faces: &[CellFaces]) -> Result<Ve
 }
 
 // Moves the faces from one number up to another of all layers one step.
-fn move_faces(
-    links: &[Link],
-    heights: &[i64],
-    slope: u32,
-    layers: usize,
-    cells: &[Salty],
-    from: usize,
-    to: usize,
-    faces: &mut [i64],
-    flows: &mut [Salty],
-)
-    requires slope { slope ≤ 40 }
-    requires heights { All IsHeight heights.now }
-    requires links { All (IsLinkWithin (length heights.now)) links.now }
-    requires few { length links.now ≤ 4 * length heights.now }
-    requires columns { AreColumns layers (length heights.now) (length cells.now) }
-    requires cells { All IsSalty cells.now }
+fn move_faces(before: &Before, from: usize, to: usize, faces: &mut [i64], flows: &mut [Salty])
+    requires before { IsLawful before.now }
     requires order { from ≤ to }
-    requires within { to ≤ length links.now }
+    requires within { to ≤ length before.now.links.now }
     requires faces { All IsFaceNumber faces.old }
-    requires face_count { length faces.old ≡ layers * length links.now }
+    requires face_count { length faces.old ≡ before.now.layers * length before.now.links.now }
     requires flows { length flows.old ≡ length faces.old }
-    ensures moved { HaveMoved slope heights.now links.now cells.now layers from to faces.old faces.new flows.old flows.new }
+    ensures moved { HaveMoved before.now before.now.layers from to faces.old faces.new flows.old flows.new }
     ensures range { All IsFaceNumber faces.new }
 {
-    let count = heights.len();
-    for layer in 0..layers {
-        let begin = layer * count;
-        let first = layer * links.len();
-        move_layer(
-            links, heights, slope, cells, begin, from, to, faces, first, flows,
-        );
+    for layer in 0..before.layers {
+        move_layer(before, layer, from, to, faces, flows);
     }
 }
 
-// What the transport leaves in the cells of a block, from one number on, layer by layer, once so many faces have moved.
-fn leave_block(
-    block: &[CellFaces],
-    flows: &[Salty],
-    done: usize,
-    layers: usize,
-    cells: &[Salty],
-    from: usize,
-    rest: &mut [Salty],
-    all: usize,
-    count: usize,
-)
-    requires block { All (AreSidesWithin done) block.now }
-    requires done { done ≤ all }
-    requires few { all ≤ 4 * count }
-    requires flows { length flows.now ≡ layers * all }
-    requires small { (layer f : ℕ) → layer < layers → f < done → AreSmall (salty_at flows.now (layer * all + f)) }
-    requires columns { AreColumns layers count (length cells.now) }
-    requires cells { All IsSalty cells.now }
-    requires within { from + length block.now ≤ count }
-    requires rest { length rest.old ≡ layers * length block.now }
-    ensures { (layer n : ℕ) → layer < layers → n < length block.now
-        → salty_at rest.new (layer * length block.now + n)
-        ≡ without (salty_at cells.now (layer * count + (from + n))) (out_of (λ f. salty_at flows.now (layer * all + f)) (cell_faces_at block.now n)) }
+// What the transport leaves in the cells of a block, layer by layer, once so many faces have moved.
+fn leave_block(before: &Before, block: Block, done: usize, flows: &[Salty], rest: &mut [Salty])
+    requires before { IsLawful before.now }
+    requires block { block.from + block.width ≤ length before.now.heights.now }
+    requires done { done ≤ length before.now.links.now }
+    requires sides { (n : ℕ) → n < block.width → AreSidesWithin done (cell_faces_at before.now.cell_faces.now (block.from + n)) }
+    requires flows { length flows.now ≡ before.now.layers * length before.now.links.now }
+    requires small { (layer f : ℕ) → layer < before.now.layers → f < done → AreSmall (salty_at flows.now (face_place before.now layer f)) }
+    requires rest { length rest.old ≡ before.now.layers * block.width }
+    ensures { (layer n : ℕ) → layer < before.now.layers → n < block.width
+        → salty_at rest.new (layer * block.width + n) ≡ left_by before.now (λ f. salty_at flows.now (face_place before.now layer f)) layer (block.from + n) }
 {
-    let width = block.len();
-    for layer in 0..layers {
-        let first = layer * all;
-        let begin = layer * count + from;
+    let cell_faces = &before.cell_faces[block.from..block.from + block.width];
+    for layer in 0..before.layers {
+        let first = layer * before.links.len();
         leave_layer(
-            block,
+            before,
+            cell_faces,
             &flows[first..first + done],
-            cells,
-            begin,
+            layer * before.heights.len() + block.from,
             rest,
-            layer * width,
+            layer * block.width,
         );
     }
 }
 
-// Writes what the vertical exchange makes of the columns of a block, from one number on, into the three lists of a state.
+// Writes what the vertical exchange makes of a block's columns into the three lists of the cells after the step.
 fn mix_block(
-    mix: u32,
-    layers: usize,
+    before: &Before,
+    block: Block,
     rest: &[Salty],
-    width: usize,
-    from: usize,
-    count: usize,
     water: &mut [i64],
     heat: &mut [i64],
     salt: &mut [i64],
 )
-    requires mix { (2 ≤ mix) × (mix ≤ 40) }
-    requires rest { AreColumns layers width (length rest.now) }
+    requires before { IsLawful before.now }
+    requires block { block.from + block.width ≤ length before.now.heights.now }
+    requires rest { AreColumns before.now.layers block.width (length rest.now) }
     requires salty { All IsSalty rest.now }
-    requires within { from + width ≤ count }
-    requires water { AreColumns layers count (length water.old) }
+    requires water { length water.old ≡ length before.now.water.now }
     requires heat { length heat.old ≡ length water.old }
     requires salt { length salt.old ≡ length water.old }
-    ensures mixed { (layer n : ℕ) → layer < layers → n < width
-        → ◌≡◌ {A = Salty} (top_at water.new heat.new salt.new (layer * count + (from + n))) (mixed_cell mix layers (column_at width rest.now n) layer) }
-    ensures before { (layer n : ℕ) → layer < layers → n < from
-        → ◌≡◌ {A = Salty} (top_at water.new heat.new salt.new (layer * count + n)) (top_at water.old heat.old salt.old (layer * count + n)) }
+    ensures mixed { (layer n : ℕ) → layer < before.now.layers → n < block.width
+        → ◌≡◌ {A = Salty} (top_at water.new heat.new salt.new (cell_place before.now layer (block.from + n))) (mixed_cell before.now.mix before.now.layers (column_at block.width rest.now n) layer) }
+    ensures earlier { (layer n : ℕ) → layer < before.now.layers → n < block.from
+        → ◌≡◌ {A = Salty} (top_at water.new heat.new salt.new (cell_place before.now layer n)) (top_at water.old heat.old salt.old (cell_place before.now layer n)) }
 {
-    for layer in 0..layers {
-        let begin = layer * count + from;
-        mix_layer(mix, layers, rest, width, layer, begin, water, heat, salt);
+    for layer in 0..before.layers {
+        mix_layer(before, block, layer, rest, water, heat, salt);
     }
 }
 
-// A step over all lists, from the cells and the columns' heights before it.
+// A step over all lists: the three lists have the cells after it.
 pub(crate) fn pass_blocks(
-    links: &[Link],
-    cell_faces: &[CellFaces],
-    ready: &[u32],
-    heights: &[i64],
-    slope: u32,
-    mix: u32,
-    layers: usize,
-    cells: &[Salty],
+    before: &Before,
     faces: &mut [i64],
     flows: &mut [Salty],
     rest: &mut [Salty],
@@ -194,51 +151,34 @@ pub(crate) fn pass_blocks(
     heat: &mut [i64],
     salt: &mut [i64],
 )
-    requires slope { slope ≤ 40 }
-    requires mix { (2 ≤ mix) × (mix ≤ 40) }
-    requires heights { All IsHeight heights.now }
-    requires links { All (IsLinkWithin (length heights.now)) links.now }
-    requires few { length links.now ≤ 4 * length heights.now }
-    requires cell_faces { All (AreSidesWithin (length links.now)) cell_faces.now }
-    requires ready { AreReady (length links.now) cell_faces.now ready.now }
-    requires cell_count { length cell_faces.now ≡ length heights.now }
-    requires columns { AreColumns layers (length heights.now) (length cells.now) }
-    requires cells { All IsSalty cells.now }
+    requires before { IsLawful before.now }
     requires faces { All IsFaceNumber faces.old }
-    requires face_count { length faces.old ≡ layers * length links.now }
+    requires face_count { length faces.old ≡ before.now.layers * length before.now.links.now }
     requires flows { length flows.old ≡ length faces.old }
-    requires rest { length rest.old ≡ layers * BLOCK }
-    requires water { length water.old ≡ length cells.now }
-    requires heat { length heat.old ≡ length cells.now }
-    requires salt { length salt.old ≡ length cells.now }
-    requires left { (layer n : ℕ) → layer < layers → n < length heights.now
-        → IsSalty (left_in slope heights.now links.now cell_faces.now cells.now faces.old layer n) }
-    ensures faces { (layer f : ℕ) → layer < layers → f < length links.now
-        → at faces.new (layer * length links.now + f)
-        ≡ number_after slope heights.now (link_at links.now f) (at faces.old (layer * length links.now + f)) }
-    ensures mixed { AreMixed mix layers (length heights.now) (left_in slope heights.now links.now cell_faces.now cells.now faces.old) (length heights.now) water.new heat.new salt.new }
+    requires rest { length rest.old ≡ before.now.layers * BLOCK }
+    requires water { length water.old ≡ length before.now.water.now }
+    requires heat { length heat.old ≡ length water.old }
+    requires salt { length salt.old ≡ length water.old }
+    requires left { (layer n : ℕ) → layer < before.now.layers → n < length before.now.heights.now → IsSalty (left_in before.now faces.old layer n) }
+    ensures faces { (layer f : ℕ) → layer < before.now.layers → f < length before.now.links.now
+        → at faces.new (face_place before.now layer f) ≡ layer_numbers before.now faces.old layer f }
+    ensures mixed { AreMixed before.now (left_in before.now faces.old) (length before.now.heights.now) water.new heat.new salt.new }
 {
-    let count = heights.len();
-    let all = links.len();
+    let count = before.heights.len();
     let mut done = 0;
     let mut from = 0;
     let mut turn = 0;
     while from < count {
-        let to = count.min(from + BLOCK);
-        let block = &cell_faces[from..to];
-        let width = block.len();
-        let next = ready[turn] as usize;
-        move_faces(
-            links, heights, slope, layers, cells, done, next, faces, flows,
-        );
-        let place = &mut rest[..layers * width];
-        leave_block(block, flows, next, layers, cells, from, place, all, count);
-        mix_block(mix, layers, place, width, from, count, water, heat, salt);
+        let width = BLOCK.min(count - from);
+        let block = Block { from, width };
+        let next = before.ready[turn] as usize;
+        move_faces(before, done, next, faces, flows);
+        let place = &mut rest[..before.layers * width];
+        leave_block(before, block, next, flows, place);
+        mix_block(before, block, place, water, heat, salt);
         done = next;
-        from = to;
+        from += width;
         turn += 1;
     }
-    move_faces(
-        links, heights, slope, layers, cells, done, all, faces, flows,
-    );
+    move_faces(before, done, before.links.len(), faces, flows);
 }

@@ -8,32 +8,13 @@ ghost use Rattle.cpl_transport.specs.Mixing.{sum_of};
 ghost use Rattle.cpl_transport.specs.Salts.{AreSmall, IsSalty};
 ghost use Rattle.cpl_restart.specs.Diffusion.{AreAmounts, cell_count};
 ghost use Rattle.cpl_xgrid.specs.Lists.{IsArea, IsMesh};
-ghost use Rattle.cpl_sea.specs.Passes.{AreColumns, column_at, height_over, salty_at, top_at};
+ghost use Rattle.cpl_sea.specs.Before.{IsLawful, cell_place};
+ghost use Rattle.cpl_sea.specs.Passes.{AreColumns, column_at, height_over, top_at};
 
+use crate::before::{Before, Block};
 use cpl_ice::{NOTHING, Salty};
 use cpl_mosaic::Mesh;
 use cpl_transport::{after_exchange, exchanged_cells, height, without};
-
-// The cells of all layers, from the three lists of a state.
-pub(crate) fn load(water: &[i64], heat: &[i64], salt: &[i64], cells: &mut [Salty])
-    requires water { All IsAmount water.now }
-    requires heat { All IsAmount heat.now }
-    requires salt { All IsAmount salt.now }
-    requires cells { length cells.old ≡ length water.now }
-    requires heat_count { length heat.now ≡ length water.now }
-    requires salt_count { length salt.now ≡ length water.now }
-    ensures each { (place : ℕ) → place < length water.now
-        → ◌≡◌ {A = Salty} (salty_at cells.new place) (record { water = at water.now place; heat = at heat.now place; salt = at salt.now place }) }
-    ensures salty { All IsSalty cells.new }
-{
-    for place in 0..cells.len() {
-        cells[place] = Salty {
-            water: water[place],
-            heat: heat[place],
-            salt: salt[place],
-        };
-    }
-}
 
 // The water of a column.
 fn column_water(water: &[i64], layers: usize, count: usize, n: usize) -> i64
@@ -129,32 +110,37 @@ fn mixed_cell(
     }
 }
 
-// Writes what the vertical exchange makes of a layer of some columns into the three lists of a state, from a place of theirs on.
+// Writes what the vertical exchange makes of a layer of a block's columns into the three lists of the cells after the step.
 pub(crate) fn mix_layer(
-    mix: u32,
-    layers: usize,
-    cells: &[Salty],
-    count: usize,
+    before: &Before,
+    block: Block,
     layer: usize,
-    begin: usize,
+    rest: &[Salty],
     water: &mut [i64],
     heat: &mut [i64],
     salt: &mut [i64],
 )
-    requires mix { (2 ≤ mix) × (mix ≤ 40) }
-    requires columns { AreColumns layers count (length cells.now) }
-    requires cells { All IsSalty cells.now }
-    requires layer { layer < layers }
-    requires water { begin + count ≤ length water.old }
+    requires before { IsLawful before.now }
+    requires block { block.from + block.width ≤ length before.now.heights.now }
+    requires layer { layer < before.now.layers }
+    requires rest { AreColumns before.now.layers block.width (length rest.now) }
+    requires salty { All IsSalty rest.now }
+    requires water { length water.old ≡ length before.now.water.now }
     requires heat { length heat.old ≡ length water.old }
     requires salt { length salt.old ≡ length water.old }
-    ensures mixed { (n : ℕ) → n < count
-        → ◌≡◌ {A = Salty} (top_at water.new heat.new salt.new (begin + n)) (mixed_cell mix layers (column_at count cells.now n) layer) }
-    ensures before { (place : ℕ) → place < begin → ◌≡◌ {A = Salty} (top_at water.new heat.new salt.new place) (top_at water.old heat.old salt.old place) }
-    ensures behind { (place : ℕ) → begin + count ≤ place → ◌≡◌ {A = Salty} (top_at water.new heat.new salt.new place) (top_at water.old heat.old salt.old place) }
+    ensures mixed { (n : ℕ) → n < block.width
+        → ◌≡◌ {A = Salty} (top_at water.new heat.new salt.new (cell_place before.now layer (block.from + n))) (mixed_cell before.now.mix before.now.layers (column_at block.width rest.now n) layer) }
+    ensures earlier { (place : ℕ) → place < cell_place before.now layer block.from
+        → ◌≡◌ {A = Salty} (top_at water.new heat.new salt.new place) (top_at water.old heat.old salt.old place) }
+    ensures later { (place : ℕ) → cell_place before.now layer (block.from + block.width) ≤ place
+        → ◌≡◌ {A = Salty} (top_at water.new heat.new salt.new place) (top_at water.old heat.old salt.old place) }
 {
-    for n in 0..count {
-        let cell = mixed_cell(mix, layers, cells, count, layer, n);
+    let mix = before.mix;
+    let layers = before.layers;
+    let width = block.width;
+    let begin = layer * before.heights.len() + block.from;
+    for n in 0..width {
+        let cell = mixed_cell(mix, layers, rest, width, layer, n);
         water[begin + n] = cell.water;
         heat[begin + n] = cell.heat;
         salt[begin + n] = cell.salt;

@@ -1,6 +1,7 @@
 //! The ocean over whole lists: its steps, and what it adds and cuts off at the ends of a coupling step.
 #![tactic(auto)]
 
+mod before;
 mod blocks;
 mod cell_faces;
 mod columns;

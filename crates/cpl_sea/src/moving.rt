@@ -1,13 +1,15 @@
 // What moves through the faces of a layer, and what it leaves in the cells.
-ghost use Rattle.std.specs.Prelude.{◌≡◌, ◌+◌, ◌<◌, ◌≤◌, ◌-◌, ◌^◌, ℕ, length, All};
+ghost use Rattle.std.specs.Prelude.{◌≡◌, ◌≢◌, ◌+◌, ◌*◌, ◌<◌, ◌≤◌, ◌-◌, ℕ, length, All};
 ghost use Rattle.cpl_fixed.specs.Amounts.{at};
 ghost use Rattle.cpl_ice.specs.declared.parts.Salty.{Salty};
 ghost use Rattle.cpl_transport.specs.Cells.{AreFew};
 ghost use Rattle.cpl_transport.specs.Heights.{IsFaceNumber, IsHeight};
-ghost use Rattle.cpl_transport.specs.Salts.{AreSmall, IsSalty, without};
+ghost use Rattle.cpl_transport.specs.Salts.{AreSmall, without};
+ghost use Rattle.cpl_sea.specs.Before.{HasMoved, IsLawful, Stands, cell_at};
 ghost use Rattle.cpl_sea.specs.Links.{seen_flow};
-ghost use Rattle.cpl_sea.specs.Passes.{AreSidesWithin, IsLinkWithin, IsSideWithin, cell_faces_at, flow_in, link_at, number_after, out_of, salty_at};
+ghost use Rattle.cpl_sea.specs.Passes.{AreSidesWithin, IsLinkWithin, IsSideWithin, cell_faces_at, flow_in, number_after, out_of, salty_at};
 
+use crate::before::Before;
 use crate::links::{CellFaces, Link, SideFace};
 use cpl_ice::{NOTHING, Salty};
 use cpl_transport::{next_face, sum_of_sides, through, turned, without};
@@ -36,68 +38,57 @@ fn driven(slope: u32, heights: &[i64], link: Link, u: i64) -> i64
 
 // What moves through a face of the layer whose cells begin at this place.
 #[inline]
-fn flow(cells: &[Salty], begin: usize, link: Link, u: i64) -> Salty
-    requires cells { All IsSalty cells.now }
-    requires few { length cells.now < 2 ^ 32 }
-    requires within { IsLinkWithin (length cells.now - begin) link }
+fn flow(before: &Before, begin: usize, link: Link, u: i64) -> Salty
+    requires before { IsLawful before.now }
+    requires within { IsLinkWithin (length before.now.water.now - begin) link }
     requires number { IsFaceNumber u }
-    ensures value { result ≡ flow_in cells.now begin link u }
+    ensures value { result ≡ flow_in (cell_at before.now) begin link u }
     ensures small { AreSmall result }
 {
     if link.is_open {
         through(
             u,
-            cells[begin + link.behind_first as usize],
-            cells[begin + link.first as usize],
-            cells[begin + link.second as usize],
-            cells[begin + link.behind_second as usize],
+            before.cell(begin + link.behind_first as usize),
+            before.cell(begin + link.first as usize),
+            before.cell(begin + link.second as usize),
+            before.cell(begin + link.behind_second as usize),
         )
     } else {
         NOTHING
     }
 }
 
-// Moves the faces from one number up to another of a layer one step: each face's number, and what moves through it. The layer's
-// cells and faces begin at these places of all layers'.
+// Moves the faces from one number up to another of a layer one step: each face's number, and what moves through it.
 pub(crate) fn move_layer(
-    links: &[Link],
-    heights: &[i64],
-    slope: u32,
-    cells: &[Salty],
-    begin: usize,
+    before: &Before,
+    layer: usize,
     from: usize,
     to: usize,
     faces: &mut [i64],
-    first: usize,
     flows: &mut [Salty],
 )
-    requires slope { slope ≤ 40 }
-    requires heights { All IsHeight heights.now }
-    requires links { All (IsLinkWithin (length heights.now)) links.now }
-    requires cells { All IsSalty cells.now }
-    requires few { length cells.now < 2 ^ 32 }
-    requires within { begin + length heights.now ≤ length cells.now }
+    requires before { IsLawful before.now }
+    requires layer { layer < before.now.layers }
     requires order { from ≤ to }
-    requires links_within { to ≤ length links.now }
+    requires within { to ≤ length before.now.links.now }
     requires faces { All IsFaceNumber faces.old }
-    requires faces_within { first + length links.now ≤ length faces.old }
+    requires face_count { length faces.old ≡ before.now.layers * length before.now.links.now }
     requires flows { length flows.old ≡ length faces.old }
-    ensures numbers { (f : ℕ) → from ≤ f → f < to
-        → at faces.new (first + f) ≡ number_after slope heights.now (link_at links.now f) (at faces.old (first + f)) }
-    ensures before { (place : ℕ) → place < first + from → at faces.new place ≡ at faces.old place }
-    ensures behind { (place : ℕ) → first + to ≤ place → at faces.new place ≡ at faces.old place }
+    ensures moved { HasMoved before.now layer from to faces.old faces.new flows.old flows.new }
+    ensures others { (other : ℕ) → other ≢ layer → Stands before.now other faces.old faces.new flows.old flows.new }
     ensures range { All IsFaceNumber faces.new }
-    ensures flows { (f : ℕ) → from ≤ f → f < to
-        → salty_at flows.new (first + f) ≡ flow_in cells.now begin (link_at links.now f) (at faces.new (first + f)) }
-    ensures small { (f : ℕ) → from ≤ f → f < to → AreSmall (salty_at flows.new (first + f)) }
-    ensures flows_before { (place : ℕ) → place < first + from → salty_at flows.new place ≡ salty_at flows.old place }
-    ensures flows_behind { (place : ℕ) → first + to ≤ place → salty_at flows.new place ≡ salty_at flows.old place }
 {
+    let before = *before;
+    let links = before.links;
+    let heights = before.heights;
+    let slope = before.slope;
+    let begin = layer * heights.len();
+    let first = layer * links.len();
     for f in from..to {
         let link = links[f];
         let place = first + f;
         let u = driven(slope, heights, link, faces[place]);
-        flows[place] = flow(cells, begin, link, u);
+        flows[place] = flow(&before, begin, link, u);
         faces[place] = u;
     }
 }
@@ -134,25 +125,25 @@ fn moved_out(flows: &[Salty], faces: CellFaces) -> Salty
 
 // What the transport leaves in some cells of a layer, which begin at this place of all layers', is put at a place of its own.
 pub(crate) fn leave_layer(
+    before: &Before,
     faces: &[CellFaces],
     flows: &[Salty],
-    cells: &[Salty],
     begin: usize,
     rest: &mut [Salty],
     place: usize,
 )
+    requires before { IsLawful before.now }
     requires faces { All (AreSidesWithin (length flows.now)) faces.now }
     requires flows { All AreSmall flows.now }
-    requires cells { All IsSalty cells.now }
-    requires few { length cells.now < 2 ^ 32 }
-    requires within { begin + length faces.now ≤ length cells.now }
+    requires within { begin + length faces.now ≤ length before.now.water.now }
     requires rest { place + length faces.now ≤ length rest.old }
     ensures left { (n : ℕ) → n < length faces.now
-        → salty_at rest.new (place + n) ≡ without (salty_at cells.now (begin + n)) (out_of (salty_at flows.now) (cell_faces_at faces.now n)) }
+        → salty_at rest.new (place + n) ≡ without (cell_at before.now (begin + n)) (out_of (salty_at flows.now) (cell_faces_at faces.now n)) }
     ensures before { (spot : ℕ) → spot < place → salty_at rest.new spot ≡ salty_at rest.old spot }
 {
+    let before = *before;
     for n in 0..faces.len() {
         let out = moved_out(flows, faces[n]);
-        rest[place + n] = without(cells[begin + n], out);
+        rest[place + n] = without(before.cell(begin + n), out);
     }
 }

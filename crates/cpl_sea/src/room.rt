@@ -7,9 +7,10 @@ ghost use Rattle.cpl_restart.specs.Transport.{stepped};
 ghost use Rattle.cpl_sea.specs.Rooms.{IsSeaRoom, sea_in};
 ghost use Rattle.cpl_sea.specs.Seas.{IsSea};
 
+use crate::before::Before;
 use crate::blocks::{BLOCK, blocks_ready, pass_blocks};
 use crate::cell_faces::cell_faces;
-use crate::columns::{load, raise};
+use crate::columns::raise;
 use crate::links::{CellFaces, Link};
 use crate::lookups::links;
 use cpl_faces::faces;
@@ -18,6 +19,7 @@ use cpl_ice::{NOTHING, Salty};
 use cpl_mosaic::Mesh;
 use cpl_xgrid::Grid;
 use std::alloc::{AllocError, Global};
+use std::mem;
 
 /// Room for the steps of an ocean: what they look up of its mosaic, and buffers, all made once.
 #[derive(Drop)]
@@ -30,9 +32,12 @@ pub struct SeaRoom {
     pub(crate) heights: Vec<i64>,
     // What moves through the faces of all layers.
     pub(crate) flows: Vec<Salty>,
-    // The cells before the step, and what the transport leaves in those of a block.
-    pub(crate) cells: Vec<Salty>,
+    // What the transport leaves in the cells of a block.
     pub(crate) rest: Vec<Salty>,
+    // What the cells of all layers hold after the step: these change places with the lists before it.
+    pub(crate) next_water: Vec<i64>,
+    pub(crate) next_heat: Vec<i64>,
+    pub(crate) next_salt: Vec<i64>,
     // These change places with the lists of a state while a step works on them.
     pub(crate) water: Vec<i64>,
     pub(crate) heat: Vec<i64>,
@@ -60,8 +65,10 @@ impl SeaRoom {
             cell_faces,
             heights: vec![in alloc; 0; cells]?,
             flows: vec![in alloc; NOTHING; layers * faces.len()]?,
-            cells: vec![in alloc; NOTHING; all]?,
             rest: vec![in alloc; NOTHING; layers * BLOCK]?,
+            next_water: vec![in alloc; 0; all]?,
+            next_heat: vec![in alloc; 0; all]?,
+            next_salt: vec![in alloc; 0; all]?,
             water: Vec::new(alloc),
             heat: Vec::new(alloc),
             salt: Vec::new(alloc),
@@ -78,33 +85,35 @@ impl SeaRoom {
         ensures sea { sea_in self.new ≡ stepped mesh.now layers rates.now (sea_in self.old) }
         ensures room { IsSeaRoom mesh.now layers self.new }
     {
-        load(
-            self.water.as_slice(),
-            self.heat.as_slice(),
-            self.salt.as_slice(),
-            self.cells.as_mut_slice(),
-        );
         raise(
             mesh,
             self.water.as_slice(),
             layers,
             self.heights.as_mut_slice(),
         );
-        pass_blocks(
-            self.links.as_slice(),
-            self.cell_faces.as_slice(),
-            self.ready.as_slice(),
-            self.heights.as_slice(),
-            rates.slope,
-            rates.mix,
+        let before = Before {
+            links: self.links.as_slice(),
+            cell_faces: self.cell_faces.as_slice(),
+            ready: self.ready.as_slice(),
+            heights: self.heights.as_slice(),
+            water: self.water.as_slice(),
+            heat: self.heat.as_slice(),
+            salt: self.salt.as_slice(),
             layers,
-            self.cells.as_slice(),
+            slope: rates.slope,
+            mix: rates.mix,
+        };
+        pass_blocks(
+            &before,
             self.faces.as_mut_slice(),
             self.flows.as_mut_slice(),
             self.rest.as_mut_slice(),
-            self.water.as_mut_slice(),
-            self.heat.as_mut_slice(),
-            self.salt.as_mut_slice(),
+            self.next_water.as_mut_slice(),
+            self.next_heat.as_mut_slice(),
+            self.next_salt.as_mut_slice(),
         );
+        mem::swap(&mut self.water, &mut self.next_water);
+        mem::swap(&mut self.heat, &mut self.next_heat);
+        mem::swap(&mut self.salt, &mut self.next_salt);
     }
 }

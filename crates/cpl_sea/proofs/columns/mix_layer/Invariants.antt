@@ -6,9 +6,9 @@ use Rattle.cpl_sea.proofs.columns.mix_layer.Given as goal
 
 abbrev pub invariant-loop-n : goal.invariant-loop-n
 invariant-loop-n l = record {
-  water : (k : ℕ) → k < l.n → at l.water (l.begin + k) ≡ (mixed_cell l.mix l.layers (column_at l.count l.cells k) l.layer).water;
-  heat : (k : ℕ) → k < l.n → at l.heat (l.begin + k) ≡ (mixed_cell l.mix l.layers (column_at l.count l.cells k) l.layer).heat;
-  salt : (k : ℕ) → k < l.n → at l.salt (l.begin + k) ≡ (mixed_cell l.mix l.layers (column_at l.count l.cells k) l.layer).salt;
+  water : (k : ℕ) → k < l.n → at l.water (l.begin + k) ≡ (mixed_cell l.mix l.layers (column_at l.width l.rest k) l.layer).water;
+  heat : (k : ℕ) → k < l.n → at l.heat (l.begin + k) ≡ (mixed_cell l.mix l.layers (column_at l.width l.rest k) l.layer).heat;
+  salt : (k : ℕ) → k < l.n → at l.salt (l.begin + k) ≡ (mixed_cell l.mix l.layers (column_at l.width l.rest k) l.layer).salt;
   water_before : (place : ℕ) → place < l.begin → at l.water place ≡ at l.initial.water place;
   heat_before : (place : ℕ) → place < l.begin → at l.heat place ≡ at l.initial.heat place;
   salt_before : (place : ℕ) → place < l.begin → at l.salt place ≡ at l.initial.salt place;

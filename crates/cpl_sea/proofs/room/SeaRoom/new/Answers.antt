@@ -38,6 +38,8 @@ returns c =
           (c.in_ok-blocks_ready.ensures (face_count mesh) (sides mesh c.as_slice-3.result.now faces (face_count mesh) (omega arith)));
       heights = search rules;
       flows = search rules;
-      cells = search rules;
+      next_water = search rules;
+      next_heat = search rules;
+      next_salt = search rules;
       rest = search rules;
     }
