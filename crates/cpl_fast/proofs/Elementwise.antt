@@ -9,7 +9,7 @@ use Rattle.cpl_xgrid.specs.Rows.{refs_of_air, refs_of_other, rows_of}
 use Rattle.cpl_xgrid.specs.declared.parts.XRef.{XRef}
 use Rattle.cpl_xgrid.specs.declared.parts.Surface.{Surface}
 use Rattle.cpl_xgrid.specs.declared.parts.Surface.TheVariants.{Land, Ocean}
-use Rattle.cpl_restart.specs.States.{air_cells, part_count}
+use Rattle.cpl_restart.specs.States.{air_cells}
 use Rattle.cpl_restart.specs.Elements.{tiles_of, element_count, over_all, over_elements, over_part, refs_of_air_cell, refs_of_surface_cell}
 use Rattle.cpl_restart.specs.FastStep.{Before}
 use Rattle.cpl_laws.specs.Once.{IsNumbered}
@@ -18,7 +18,9 @@ use Rattle.cpl_laws.proofs.FastSums.{over_rows}
 use Rattle.cpl_laws.proofs.Groups.{total_same}
 use Rattle.cpl_laws.proofs.Sums.{cells_same}
 use Rattle.cpl_fast.specs.declared.flows.Flow.{Flow}
+use Rattle.cpl_fast.specs.declared.sums.FlowLists.{FlowLists}
 use Rattle.cpl_fast.specs.Air.{refs_at}
+use Rattle.cpl_fast.specs.Filled.{AreTables}
 use Rattle.cpl_fast.specs.Flows.{flow_at}
 use Rattle.cpl_fast.specs.Places.{place_in}
 use Rattle.cpl_fast.specs.Rain.{in_list}
@@ -26,6 +28,12 @@ use Rattle.cpl_fast.specs.Stages.{AreFlows, flow_of}
 use Rattle.cpl_fast.specs.Sums as sums
 use Rattle.cpl_fast.specs.Sums.{in_part, in_row, in_rows}
 use Rattle.cpl_fast.specs.Surfaces.{refs_on, tiles_on}
+
+-- the flows of both lists in a step, where this rains on their elements, and the tables of the ocean's
+pub record AreFlowLists (s : Before) (wet : XRef → ℕ → ℤ) (flows : FlowLists) : Type 0 where
+  pub land : AreFlows s wet Land flows.land.now
+  pub ocean : AreFlows s wet Ocean flows.ocean.now
+  pub tables : AreTables s Ocean flows.tables.now
 
 -- ROWS
 
@@ -49,13 +57,13 @@ module _ (s : Before) (wet : XRef → ℕ → ℤ) (number : Flow → ℤ) where
       (row_is list flows are)
 
   -- over the elements of a row of either list
-  either_is : (land ocean : List Flow) → AreFlows s wet Land land → AreFlows s wet Ocean ocean → (list : Surface) (m : ℕ) → m < length (rows_of s.grid.xgrid list)
-      → sums.in_list land ocean (length s.grid.xgrid.ocean_rows) (part_count s.grid) list m number ≡ over_elements s.grid each (record { list = list; row = m })
-  either_is land ocean of_land of_ocean Land m l =
-      let count = of_land.count in
-      let rows : length land ≡ length s.grid.xgrid.land_rows = omega (arith, count) in
-      ap (λ (r : ℕ). in_row land r 1 m number) rows ∙ row_is Land land of_land m l
-  either_is land ocean of_land of_ocean Ocean m l = row_is Ocean ocean of_ocean m l
+  either_is : (flows : FlowLists) → AreFlowLists s wet flows → (list : Surface) (m : ℕ) → m < length (rows_of s.grid.xgrid list)
+      → sums.in_list flows list m number ≡ over_elements s.grid each (record { list = list; row = m })
+  either_is flows are Land m l =
+      let count = are.land.count in
+      let rows : length flows.land.now ≡ length s.grid.xgrid.land_rows = omega (arith, count) in
+      ap (λ (r : ℕ). in_row flows.land.now r 1 m number) rows ∙ row_is Land flows.land.now are.land m l
+  either_is flows are Ocean m l = (λ i. in_row flows.ocean.now (are.tables.links.count i) (are.tables.width i) m number) ∙ row_is Ocean flows.ocean.now are.ocean m l
 
 -- CELLS
 
@@ -74,14 +82,14 @@ surface_refs s is list n = ap (λ (tiles : List Tile). refs_of_other list (rows_
 
 module _ (s : Before) (is : IsNumbered s.grid) (wet : XRef → ℕ → ℤ) (number : Flow → ℤ) where
   -- over all elements of a cell of the air
-  pub air_is : (land ocean : List Flow) → AreFlows s wet Land land → AreFlows s wet Ocean ocean → (n : ℕ) → n < air_cells s.grid
-      → in_rows land ocean (length s.grid.xgrid.ocean_rows) (part_count s.grid) (refs_at s.grid.xgrid n) number ≡ over_all s.grid (each s wet number) (refs_of_air_cell s.grid n)
-  air_is land ocean of_land of_ocean n l =
-      let one = λ (ref : XRef). sums.in_list land ocean (length s.grid.xgrid.ocean_rows) (part_count s.grid) ref.list ref.row number in
+  pub air_is : (flows : FlowLists) → AreFlowLists s wet flows → (n : ℕ) → n < air_cells s.grid
+      → in_rows flows (refs_at s.grid.xgrid n) number ≡ over_all s.grid (each s wet number) (refs_of_air_cell s.grid n)
+  air_is flows are n l =
+      let one = λ (ref : XRef). sums.in_list flows ref.list ref.row number in
       let other = over_elements s.grid (each s wet number) in
-      ap (λ (refs : List XRef). in_rows land ocean (length s.grid.xgrid.ocean_rows) (part_count s.grid) refs number) (air_refs s is n)
+      ap (λ (refs : List XRef). in_rows flows refs number) (air_refs s is n)
       ∙ total_same one other (refs_of_air_cell s.grid n)
-      (each_of_air s.grid is (λ (ref : XRef). one ref ≡ other ref) n l (λ list m h e. either_is s wet number land ocean of_land of_ocean list m h))
+      (each_of_air s.grid is (λ (ref : XRef). one ref ≡ other ref) n l (λ list m h e. either_is s wet number flows are list m h))
 
   -- over the elements of part k of a cell of a surface
   pub part_is : (list : Surface) (flows : List Flow) → AreFlows s wet list flows → (n k : ℕ) → n < cells_of (tiles_of s.grid list) → k < element_count s.grid list

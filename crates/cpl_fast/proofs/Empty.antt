@@ -94,6 +94,3 @@ are_clear s list wet is_dry tables are flows have m below k part empty =
 
 pub dry_clear : (s : Before) (list : Surface) (tables : Tables) → AreTables s list tables → (flows : List Flow) → AreFlows s dry list flows → AreClear tables flows
 dry_clear s list = are_clear s list dry (λ ref k e. refl)
-
-pub wet_clear : (s : Before) (list : Surface) (tables : Tables) → AreTables s list tables → (flows : List Flow) → AreFlows s (rain_on s) list flows → AreClear tables flows
-wet_clear s list = are_clear s list (rain_on s) (no_rain_on s)

@@ -7,6 +7,7 @@ use Rattle.cpl_fixed.specs.declared.limits.TheConstants.{MOST_AREA, MOST_TOTAL}
 use Rattle.cpl_flux.specs.Elements.{IsAirSide, IsPart}
 use Rattle.cpl_mosaic.specs.Contacts.{cells_of}
 use Rattle.cpl_mosaic.specs.Mates.{MatesAgree}
+use Rattle.cpl_xgrid.specs.declared.grid.Grid.{Grid}
 use Rattle.cpl_xgrid.specs.declared.parts.Surface.{Surface}
 use Rattle.cpl_xgrid.specs.declared.parts.Surface.TheVariants.{Land, Ocean}
 use Rattle.cpl_restart.specs.Diffusion.{IsAirMesh}
@@ -21,6 +22,11 @@ use Rattle.cpl_laws.proofs.Naturals.{are_natural}
 use Rattle.cpl_laws.proofs.FastKept.{heat_held, water_held, other_heat_natural, ice_and_more}
 use Rattle.cpl_laws.proofs.Held.{stored_amount}
 use Rattle.cpl_fast.proofs.Making.{mesh_most}
+
+-- each row of a list has an element
+pub some_parts : (grid : Grid) (list : Surface) → 0 < element_count grid list
+some_parts grid Land = omega arith
+some_parts grid Ocean = omega arith
 
 module _ (s : Before) (is : IsNumbered s.grid) (air : IsAirMesh s.grid.air) (mates : MatesAgree s.grid.air.mosaic) (can : CanStep s) where
   -- the total of each list is within the most

@@ -6,6 +6,7 @@ pub mod Filling
 pub mod Places
 pub mod Linked
 pub mod Ends
+pub mod Written
 pub mod Found
 pub mod Machine
 pub mod Linking

@@ -65,10 +65,12 @@ module _ (s : Before) (lawful : IsLawful s) where
         let cells = sym (ap cells_of (tiles_are s lawful.numbers Ocean)) in
         record {
           cells = skins ∙ cells;
-          few = omega (arith, most, own);
-          parts = lawful.numbers.rules.column.categories.1;
-          area_count = areas.count ∙ sym (ap (λ (n : ℕ). n * (categories s.grid + 1)) skins);
-          ends = subst (λ (count : ℕ). AreEnds area used count (part_count s.grid)) (sym skins) ends;
+          parts = record {
+            few = omega (arith, most, cells);
+            most = lawful.numbers.rules.column.categories.1;
+            count = areas.count ∙ ap (λ (n : ℕ). n * (categories s.grid + 1)) cells;
+            ends = subst (λ (count : ℕ). AreEnds area used count (part_count s.grid)) cells ends;
+          };
           ice_count = ices ∙ sym (ap (λ (n : ℕ). categories s.grid * n) skins);
           water_count = ap length water_is ∙ lawful.can.mid.skin_water.count ∙ sym skins;
           still = λ n l k h e. no_sums s lawful flows are n k (omega (arith, l, own)) h (sym (areas.each n k (omega (arith, l, own)) h) ∙ ap (λ (count : ℕ). at area (place_in count n k)) cells ∙ e);

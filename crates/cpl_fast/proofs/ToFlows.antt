@@ -3,6 +3,7 @@ use Rattle.std.proofs.Common.{◌≡◌, ◌∙◌, sym, ap, subst, Bool, true, 
 use Rattle.std.specs.Prelude.{ℤ, pos, ◌+ℤ◌, ◌-ℤ◌, ◌*ℤ◌, ◌≤ℤ◌}
 use Rattle.std.specs.List.{range_with_len}
 use Rattle.std.proofs.lemmas.Int.{ints}
+use Rattle.std.proofs.lemmas.List.FromFn.{length-map-range_with_len}
 use Rattle.cpl_fixed.specs.Amounts.{IsAmount, at}
 use Rattle.cpl_fixed.specs.Shares.{share}
 use Rattle.cpl_fixed.specs.Totals.{total_of}
@@ -41,7 +42,7 @@ use Rattle.cpl_fast.specs.Stages.{AreFlows, IsLawful, dry, flow_of, given, sums_
 use Rattle.cpl_fast.specs.Sums.{SumsAre, net_heat, taken}
 use Rattle.cpl_fast.proofs.Elementwise.{list_is}
 use Rattle.cpl_fast.proofs.Found.{area_found, before_found, flow_found, part_found, sky_found}
-use Rattle.cpl_fast.proofs.InRange.{air_in_range, part_in_range}
+use Rattle.cpl_fast.proofs.InRange.{air_in_range, part_in_range, some_parts}
 
 -- TEMPERATURES
 
@@ -177,6 +178,9 @@ module _ (s : Before) (lawful : IsLawful s) (list : Surface) (tables : Tables) (
   part_above : (k : ℕ) → k < width → k < tables.width
   part_above k h = let w = are.width in omega (arith, h, w)
 
+  pub some : 0 < tables.width
+  some = let w = are.width in let parts = some_parts s.grid list in omega (arith, w, parts)
+
   pub few : length tables.links.items ≤ 1_048_576
   few = let e = are.links.count in let most = rows_most list in omega (arith, e, most)
 
@@ -193,11 +197,11 @@ module _ (s : Before) (lawful : IsLawful s) (list : Surface) (tables : Tables) (
     pub can_flow : (m k : ℕ) → m < length tables.links.items → k < tables.width → CanFlow (sky_of skies tables m) tables parts m k
     can_flow m k l h = can_flow_here m k (row_below m l) (part_below k h) parts own
 
-    pub flows_are : (old flows : List Flow) → HaveSuns s list old → length flows ≡ rows * width
+    pub flows_are : (old flows : List Flow) → HaveSuns s list old → length flows ≡ length tables.links.items * tables.width
         → ((m k : ℕ) → m < length tables.links.items → k < tables.width → flow_at flows (place_in (length tables.links.items) m k) ≡ flow_again s.rates (sky_of skies tables m) tables parts old m k)
         → AreFlows s dry list flows
     flows_are old flows suns count value = record {
-      count = count;
+      count = count ∙ (λ i. are.links.count i * are.width i);
       each = λ m k l h. (
           let sun = ap (λ (r : ℕ). (flow_at old (place_in r m k)).sun) are.links.count ∙ suns.each m k l h in
           ap (λ (r : ℕ). flow_at flows (place_in r m k)) (sym are.links.count) ∙ value m k (row_above m l) (part_above k h)
@@ -207,6 +211,9 @@ module _ (s : Before) (lawful : IsLawful s) (list : Surface) (tables : Tables) (
   -- RAIN
 
   module _ (rains : List ℤ) (rains_are : rains ≡ for_each (air_cells s.grid) (rain s)) where
+    pub rains_long : length rains ≡ length skies
+    rains_long = ap length rains_are ∙ length-map-range_with_len (rain s) 0 (air_cells s.grid) ∙ sym seen.count
+
     rain_at : (n : ℕ) → n < air_cells s.grid → at rains n ≡ rain s n
     rain_at n l = ap (λ (xs : List ℤ). at xs n) rains_are ∙ read_cell (rain s) (air_cells s.grid) n l
 

@@ -28,7 +28,7 @@ use Rattle.cpl_fast.specs.Stages.{IsLawful}
 use Rattle.cpl_fast.specs.Sums.{AreClear}
 use Rattle.cpl_fast.specs.Suns.{only_sun, sun_in}
 use Rattle.cpl_fast.proofs.Found.{area_by, before_by}
-use Rattle.cpl_fast.proofs.InRange.{air_in_range}
+use Rattle.cpl_fast.proofs.InRange.{air_in_range, some_parts}
 use Rattle.cpl_fast.proofs.Nothing.{no_sun_in}
 
 strength_most : (rates : Rates) → AreRates rates → (k : ℕ) → at rates.month k ≤ℤ pos 4_000
@@ -37,16 +37,19 @@ strength_most rates are k = elim (cases_lt k (length rates.month)) [
   | inr past ↦ let none = get_or_past rates.month k (pos 0) past in omega (arith, ints, none)
 ]
 
--- the strength of the sun in a month, as it was read
-pub strength_read : (rates : Rates) → AreRates rates → (k : ℕ) → to_z w64 (of_z w64 (at rates.month k)) ≡ at rates.month k
-strength_read rates are k =
-    let least = strength_least rates are k in
-    let most = strength_most rates are k in
-    omega (arith, ints, least, most)
+-- the sun and the areas of the cells of the air as they are lent, and the strength of the sun in the month as it is read
+module _ (s : Before) (lawful : IsLawful s) (sun area : List ℤ) (sun_is : sun ≡ s.mid.whole.air_sun) (area_is : area ≡ s.grid.air.area) where
+  abbrev strength : ℤ
+  strength = to_z w64 (of_z w64 (at s.rates.month (s.month - 1)))
 
-module _ (s : Before) (lawful : IsLawful s) (sun area : List ℤ) (strength : ℤ) (sun_is : sun ≡ s.mid.whole.air_sun) (area_is : area ≡ s.grid.air.area) (strength_is : strength ≡ at s.rates.month (s.month - 1)) where
+  strength_is : strength ≡ at s.rates.month (s.month - 1)
+  strength_is =
+      let least = strength_least s.rates lawful.can.rates (s.month - 1) in
+      let most = strength_most s.rates lawful.can.rates (s.month - 1) in
+      omega (arith, ints, least, most)
+
   pub strength_natural : pos 0 ≤ℤ strength
-  strength_natural = let least = strength_least s.rates lawful.can.rates (s.month - 1) in omega (arith, ints, least, strength_is)
+  strength_natural = let least = strength_least s.rates lawful.can.rates (s.month - 1) in let is = strength_is in omega (arith, ints, least, is)
 
   long : length sun ≡ air_cells s.grid
   long = ap length sun_is ∙ lawful.can.mid.whole.lengths.air_sun
@@ -77,6 +80,9 @@ module _ (s : Before) (lawful : IsLawful s) (sun area : List ℤ) (strength : �
 
     part_below : (k : ℕ) → k < tables.width → k < element_count s.grid list
     part_below k h = let w = has.width in omega (arith, h, w)
+
+    pub some : 0 < tables.width
+    some = subst (λ (w : ℕ). 0 < w) (sym has.width) (some_parts s.grid list)
 
     pub airs_seen : (m : ℕ) → m < length tables.links.items → (link_at tables.links.items m).air < length sun
     airs_seen m l =

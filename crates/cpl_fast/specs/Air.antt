@@ -12,6 +12,7 @@ use Rattle.cpl_xgrid.specs.Rows.{refs_of_air}
 use Rattle.cpl_xgrid.specs.declared.parts.XRef.{XRef}
 use Rattle.cpl_fast.specs.declared.air.Rained.{Rained}
 use Rattle.cpl_fast.specs.declared.flows.Flow.{Flow}
+use Rattle.cpl_fast.specs.declared.sums.FlowLists.{FlowLists}
 use Rattle.cpl_fast.specs.declared.sums.Sums.{Sums}
 use Rattle.cpl_fast.specs.Sums.{in_rows, net_heat, within}
 
@@ -46,21 +47,21 @@ abbrev pub refs_at : XGridLists → ℕ → List XRef
 refs_at xgrid n = refs_of_air xgrid.land_rows xgrid.ocean_rows (cell_of xgrid.air n)
 
 -- the sums of its flows
-unfoldable pub sums_at : XGridLists → ℕ → (land ocean : List Flow) → ℕ → Sums
-sums_at xgrid width land ocean n = record {
-  heat = in_rows land ocean (length xgrid.ocean_rows) width (refs_at xgrid n) (λ (flow : Flow). flow.heat);
-  water = in_rows land ocean (length xgrid.ocean_rows) width (refs_at xgrid n) (λ (flow : Flow). flow.water);
-  sun = in_rows land ocean (length xgrid.ocean_rows) width (refs_at xgrid n) (λ (flow : Flow). flow.sun);
-  rain = in_rows land ocean (length xgrid.ocean_rows) width (refs_at xgrid n) (λ (flow : Flow). flow.rain);
+unfoldable pub sums_at : XGridLists → FlowLists → ℕ → Sums
+sums_at xgrid flows n = record {
+  heat = in_rows flows (refs_at xgrid n) (λ (flow : Flow). flow.heat);
+  water = in_rows flows (refs_at xgrid n) (λ (flow : Flow). flow.water);
+  sun = in_rows flows (refs_at xgrid n) (λ (flow : Flow). flow.sun);
+  rain = in_rows flows (refs_at xgrid n) (λ (flow : Flow). flow.rain);
 }
 
-unfoldable pub rained_at : Rates → XGridLists → AirSide → ℕ → (land ocean : List Flow) → ℕ → Rained
-rained_at rates xgrid air width land ocean n = rained rates air (sums_at xgrid width land ocean n)
+unfoldable pub rained_at : Rates → XGridLists → AirSide → FlowLists → ℕ → Rained
+rained_at rates xgrid air flows n = rained rates air (sums_at xgrid flows n)
 
--- the flows of cell n stand in their tables, and all is in range
-pub record CanRain (rates : Rates) (xgrid : XGridLists) (air : AirSide) (width : ℕ) (land ocean : List Flow) (n : ℕ) : Type 0 where
+-- the flows of cell n stand in their lists, and all is in range
+pub record CanRain (rates : Rates) (xgrid : XGridLists) (air : AirSide) (flows : FlowLists) (n : ℕ) : Type 0 where
   pub range : IsAirSide air
   pub few : length (refs_at xgrid n) ≤ MOST_EXCHANGE_CELLS
-  pub rows : All (within land (length xgrid.ocean_rows)) (refs_at xgrid n)
-  pub heat : IsAmount (warm rates air (sums_at xgrid width land ocean n))
-  pub vapour : IsAmount (moist air (sums_at xgrid width land ocean n))
+  pub rows : All (within flows) (refs_at xgrid n)
+  pub heat : IsAmount (warm rates air (sums_at xgrid flows n))
+  pub vapour : IsAmount (moist air (sums_at xgrid flows n))

@@ -1,5 +1,5 @@
 -- Sums of flows over elements.
-use Rattle.std.specs.Prelude.{◌≡◌, ℕ, ◌*◌, ◌<◌, ◌^◌, List, map, length, ℤ, pos, neg_ℤ, ◌+ℤ◌, ◌-ℤ◌, ◌*ℤ◌, ◌≤ℤ◌, slice_index_or}
+use Rattle.std.specs.Prelude.{◌≡◌, ℕ, ◌*◌, ◌<◌, ◌≤◌, ◌^◌, List, map, length, ℤ, pos, neg_ℤ, ◌+ℤ◌, ◌-ℤ◌, ◌*ℤ◌, ◌≤ℤ◌, slice_index_or}
 use Rattle.std.specs.List.{range_with_len}
 use Rattle.cpl_fixed.specs.Totals.{total_of}
 use Rattle.cpl_fixed.specs.declared.limits.TheConstants.{VAPOUR_HEAT, WATER_HEAT}
@@ -8,10 +8,11 @@ use Rattle.cpl_xgrid.specs.declared.parts.Surface.{Surface}
 use Rattle.cpl_xgrid.specs.declared.parts.Surface.TheVariants.{Land, Ocean}
 use Rattle.cpl_fast.specs.declared.flows.Flow.{Flow}
 use Rattle.cpl_fast.specs.declared.flows.Tables.{Tables}
+use Rattle.cpl_fast.specs.declared.sums.FlowLists.{FlowLists}
 use Rattle.cpl_fast.specs.declared.sums.Sums.{Sums}
 use Rattle.cpl_fast.specs.declared.sums.After.{After}
 use Rattle.cpl_fast.specs.declared.sums.Taken.{Taken}
-use Rattle.cpl_fast.specs.Flows.{area_in, flow_at, no_flow}
+use Rattle.cpl_fast.specs.Flows.{AreUsed, area_in, flow_at, no_flow}
 use Rattle.cpl_fast.specs.Places.{place_in}
 
 abbrev pub none : Sums
@@ -48,6 +49,19 @@ IsClear tables flows row = (k : ℕ) → k < tables.width → area_in tables row
 abbrev pub AreClear : Tables → List Flow → Type 0
 AreClear tables flows = (row : ℕ) → row < length tables.links.items → IsClear tables flows row
 
+-- the flows of a list fit its tables: a row has 6 elements at most, there is a flow and an area for each, and none has an area behind
+-- those that are looked at
+pub record FitFlows (tables : Tables) (flows : List Flow) : Type 0 where
+  pub width : tables.width ≤ 6
+  pub count : length flows ≡ length tables.links.items * tables.width
+  pub areas : length tables.areas.items ≡ length tables.links.items * tables.width
+  pub used : AreUsed tables
+
+-- the flows of the ocean's list fit its tables, and nothing flows through the elements of the area 0
+pub record FitTables (flows : FlowLists) : Type 0 where
+  pub fit : FitFlows flows.tables.now flows.ocean.now
+  pub clear : AreClear flows.tables.now flows.ocean.now
+
 -- nothing flows through the elements of a row at all, nor through those of any row
 abbrev pub IsStill : Tables → List Flow → (row : ℕ) → Type 0
 IsStill tables flows row = (k : ℕ) → k < tables.width → flow_at flows (place_in (length tables.links.items) row k) ≡ no_flow
@@ -63,26 +77,26 @@ in_row flows rows width row number = total_of (map (λ k. number (flow_at flows 
 abbrev pub in_part : List Flow → (rows k : ℕ) → List XRef → (Flow → ℤ) → ℤ
 in_part flows rows k refs number = total_of (map (λ (ref : XRef). number (flow_at flows (place_in rows ref.row k))) refs)
 
--- over all elements of an exchange cell of a list, where the ocean's has so many rows
-abbrev pub in_list : (land ocean : List Flow) → (rows width : ℕ) → Surface → (row : ℕ) → (Flow → ℤ) → ℤ
-in_list land ocean rows width Land row number = in_row land (length land) 1 row number
-in_list land ocean rows width Ocean row number = in_row ocean rows width row number
+-- over all elements of an exchange cell of a list
+abbrev pub in_list : FlowLists → Surface → (row : ℕ) → (Flow → ℤ) → ℤ
+in_list flows Land row number = in_row flows.land.now (length flows.land.now) 1 row number
+in_list flows Ocean row number = in_row flows.ocean.now (length flows.tables.now.links.items) flows.tables.now.width row number
 
 -- over all elements of exchange cells
-abbrev pub in_rows : (land ocean : List Flow) → (rows width : ℕ) → List XRef → (Flow → ℤ) → ℤ
-in_rows land ocean rows width refs number = total_of (map (λ (ref : XRef). in_list land ocean rows width ref.list ref.row number) refs)
+abbrev pub in_rows : FlowLists → List XRef → (Flow → ℤ) → ℤ
+in_rows flows refs number = total_of (map (λ (ref : XRef). in_list flows ref.list ref.row number) refs)
 
 -- an exchange cell is one of so many rows
 abbrev pub reaches : (rows : ℕ) → XRef → Type 0
 reaches rows ref = ref.row < rows
 
--- or one of either list, where the ocean's has so many rows
-abbrev pub within_list : (land : List Flow) → (rows : ℕ) → Surface → (row : ℕ) → Type 0
-within_list land rows Land row = row < length land
-within_list land rows Ocean row = row < rows
+-- or one of either list
+abbrev pub within_list : FlowLists → Surface → (row : ℕ) → Type 0
+within_list flows Land row = row < length flows.land.now
+within_list flows Ocean row = row < length flows.tables.now.links.items
 
-abbrev pub within : (land : List Flow) → (rows : ℕ) → XRef → Type 0
-within land rows ref = within_list land rows ref.list ref.row
+abbrev pub within : FlowLists → XRef → Type 0
+within flows ref = within_list flows ref.list ref.row
 
 -- the heat that flows to the surface, less that of the vapour
 abbrev pub net_heat : Sums → ℤ

@@ -109,14 +109,17 @@ pub record CanGainSkin (xgrid : XGridLists) (flows : List Flow) (categories : �
   pub heat_range : IsAmount (skin_at xgrid flows categories heat water n).heat
   pub water_range : IsAmount (skin_at xgrid flows categories heat water n).water
 
--- lists of categories and of skins that can take what flows, where `area` has the areas of all parts, and `used` how many of each cell
--- are looked at
+-- the parts of so many cells: `area` has the area of each, part by part, and `used` how many of each cell are looked at
+pub record AreIceParts (cells : ℕ) (area : List ℤ) (used : List ℕ) (categories : ℕ) : Type 0 where
+  pub few : cells ≤ MOST_CELLS
+  pub most : categories ≤ 5
+  pub count : length area ≡ cells * (categories + 1)
+  pub ends : AreEnds area used cells (categories + 1)
+
+-- lists of categories and of skins that can take what flows
 pub record CanTakeIce (xgrid : XGridLists) (flows : List Flow) (area : List ℤ) (used : List ℕ) (categories : ℕ) (ice heat water : List ℤ) : Type 0 where
   pub cells : length heat ≡ cells_of xgrid.ocean
-  pub few : length heat ≤ MOST_CELLS
-  pub parts : categories ≤ 5
-  pub area_count : length area ≡ length heat * (categories + 1)
-  pub ends : AreEnds area used (length heat) (categories + 1)
+  pub parts : AreIceParts (cells_of xgrid.ocean) area used categories
   pub ice_count : length ice ≡ categories * length heat
   pub water_count : length water ≡ length heat
   pub still : (n : ℕ) → n < length heat → IsStill xgrid flows area categories n

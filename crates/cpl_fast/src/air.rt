@@ -1,5 +1,5 @@
 // The air after its elements have given and taken, before it diffuses.
-ghost use Rattle.std.specs.Prelude.{◌≡◌, ℕ, ◌*◌, ◌<◌, ◌≤◌, ◌^◌, length, map, pos, ◌-ℤ◌, ◌*ℤ◌, ◌≤ℤ◌};
+ghost use Rattle.std.specs.Prelude.{◌≡◌, ℕ, ◌<◌, ◌≤◌, ◌^◌, length, map, pos, ◌-ℤ◌, ◌*ℤ◌, ◌≤ℤ◌};
 ghost use Rattle.std.specs.List.{range_with_len};
 ghost use Rattle.cpl_fixed.specs.Amounts.{IsAmount, at};
 ghost use Rattle.cpl_fixed.specs.Ranges.{AreRates, IsFromℤ};
@@ -8,13 +8,13 @@ ghost use Rattle.cpl_fixed.specs.Totals.{total_of};
 ghost use Rattle.cpl_fixed.specs.declared.limits.TheConstants.{MOST_AREA, MOST_CELLS, WATER_HEAT};
 ghost use Rattle.cpl_mosaic.specs.Contacts.{cells_of};
 ghost use Rattle.cpl_flux.specs.Elements.{IsAirSide};
-ghost use Rattle.cpl_fast.specs.Flows.{AreUsed, sky_at};
-ghost use Rattle.cpl_fast.specs.Sums.{AreClear, AreSmall, IsSmall};
+ghost use Rattle.cpl_fast.specs.Flows.{sky_at};
+ghost use Rattle.cpl_fast.specs.Sums.{AreSmall, FitTables, IsSmall};
 ghost use Rattle.cpl_fast.specs.Air.{CanRain, after_rain, moist, rain_of, rained, rained_at, warm};
 
-use crate::flows::{Flow, Sky, Tables};
+use crate::flows::Sky;
 use crate::numbers::part_of;
-use crate::sums::{Sums, air_sums, gained, net_heat};
+use crate::sums::{FlowLists, Sums, air_sums, gained, net_heat};
 use cpl_fixed::{Rates, WATER_HEAT};
 use cpl_flux::AirSide;
 use cpl_xgrid::XGrid;
@@ -102,41 +102,26 @@ pub fn let_rain(rates: &Rates, air: &AirSide, sums: &Sums) -> Rained
     after_rain(heat, vapour, rain, space)
 }
 
-// Cell n of the air after it has rained. The tables are the ocean's.
+// Cell n of the air after it has rained.
 #[inline]
-fn air_cell(
-    rates: &Rates,
-    xgrid: &XGrid,
-    air: &AirSide,
-    tables: &Tables,
-    land: &[Flow],
-    ocean: &[Flow],
-    n: u32,
-) -> Rained
+fn air_cell(rates: &Rates, xgrid: &XGrid, air: &AirSide, flows: &FlowLists, n: u32) -> Rained
     requires rates { AreRates rates.now }
     requires cell { n < cells_of xgrid.now.air }
-    requires width { tables.now.width ≤ 6 }
-    requires rows { length tables.now.links.items ≡ length xgrid.now.ocean_rows }
-    requires flows { length ocean.now ≡ length tables.now.links.items * tables.now.width }
-    requires areas { length tables.now.areas.items ≡ length ocean.now }
-    requires used { AreUsed tables.now }
-    requires clear { AreClear tables.now ocean.now }
-    requires can { CanRain rates.now xgrid.now air.now tables.now.width land.now ocean.now n }
-    ensures value { result ≡ rained_at rates.now xgrid.now air.now tables.now.width land.now ocean.now n }
+    requires fit { FitTables flows.now }
+    requires can { CanRain rates.now xgrid.now air.now flows.now n }
+    ensures value { result ≡ rained_at rates.now xgrid.now air.now flows.now n }
     ensures space { IsAmount result.space }
 {
-    let sums = air_sums(xgrid.cells_of_air(n), tables, land, ocean);
+    let sums = air_sums(xgrid.cells_of_air(n), flows);
     let_rain(rates, air, &sums)
 }
 
-// The heat, the vapour and the rain of all cells of the air, and the heat to space. The tables are the ocean's.
+// The heat, the vapour and the rain of all cells of the air, and the heat to space.
 pub(crate) fn air_lists(
     rates: &Rates,
     xgrid: &XGrid,
     skies: &[Sky],
-    tables: &Tables,
-    land: &[Flow],
-    ocean: &[Flow],
+    flows: &FlowLists,
     heat: &mut [i64],
     vapour: &mut [i64],
     rain: &mut [i64],
@@ -144,24 +129,19 @@ pub(crate) fn air_lists(
     requires rates { AreRates rates.now }
     requires cells { length skies.now ≡ cells_of xgrid.now.air }
     requires few { length skies.now ≤ MOST_CELLS }
-    requires width { tables.now.width ≤ 6 }
-    requires rows { length tables.now.links.items ≡ length xgrid.now.ocean_rows }
-    requires flows { length ocean.now ≡ length tables.now.links.items * tables.now.width }
-    requires areas { length tables.now.areas.items ≡ length ocean.now }
-    requires used { AreUsed tables.now }
-    requires clear { AreClear tables.now ocean.now }
-    requires can { (n : ℕ) → n < length skies.now → CanRain rates.now xgrid.now (sky_at skies.now n).air tables.now.width land.now ocean.now n }
+    requires fit { FitTables flows.now }
+    requires can { (n : ℕ) → n < length skies.now → CanRain rates.now xgrid.now (sky_at skies.now n).air flows.now n }
     requires heat { length heat.old ≡ length skies.now }
     requires vapour { length vapour.old ≡ length skies.now }
     requires rain { length rain.old ≡ length skies.now }
-    ensures heat { (n : ℕ) → n < length skies.now → at heat.new n ≡ (rained_at rates.now xgrid.now (sky_at skies.now n).air tables.now.width land.now ocean.now n).heat }
-    ensures vapour { (n : ℕ) → n < length skies.now → at vapour.new n ≡ (rained_at rates.now xgrid.now (sky_at skies.now n).air tables.now.width land.now ocean.now n).vapour }
-    ensures rain { (n : ℕ) → n < length skies.now → at rain.new n ≡ (rained_at rates.now xgrid.now (sky_at skies.now n).air tables.now.width land.now ocean.now n).rain }
-    ensures space { result ≡ total_of (map (λ n. (rained_at rates.now xgrid.now (sky_at skies.now n).air tables.now.width land.now ocean.now n).space) (range_with_len 0 (length skies.now))) }
+    ensures heat { (n : ℕ) → n < length skies.now → at heat.new n ≡ (rained_at rates.now xgrid.now (sky_at skies.now n).air flows.now n).heat }
+    ensures vapour { (n : ℕ) → n < length skies.now → at vapour.new n ≡ (rained_at rates.now xgrid.now (sky_at skies.now n).air flows.now n).vapour }
+    ensures rain { (n : ℕ) → n < length skies.now → at rain.new n ≡ (rained_at rates.now xgrid.now (sky_at skies.now n).air flows.now n).rain }
+    ensures space { result ≡ total_of (map (λ n. (rained_at rates.now xgrid.now (sky_at skies.now n).air flows.now n).space) (range_with_len 0 (length skies.now))) }
 {
     let mut left = 0i128;
     for n in 0..skies.len() {
-        let after = air_cell(rates, xgrid, &skies[n].air, tables, land, ocean, n as u32);
+        let after = air_cell(rates, xgrid, &skies[n].air, flows, n as u32);
         heat[n] = after.heat;
         vapour[n] = after.vapour;
         rain[n] = after.rain;

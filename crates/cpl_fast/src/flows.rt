@@ -4,7 +4,7 @@ ghost use Rattle.cpl_fixed.specs.Amounts.{IsAmount};
 ghost use Rattle.cpl_fixed.specs.Ranges.{AreRates};
 ghost use Rattle.cpl_flux.specs.Elements.{IsPart, IsElement};
 ghost use Rattle.cpl_fast.specs.Rain.{in_list};
-ghost use Rattle.cpl_fast.specs.Sums.{AreClear, AreSmall, IsClear, SumsAre};
+ghost use Rattle.cpl_fast.specs.Sums.{AreClear, AreSmall, FitFlows, IsClear, SumsAre};
 ghost use Rattle.cpl_fast.specs.Flows.{ArePortions, AreUsed, CanFlow, IsInCell, IsSky, area_in, before_in, flow_again, flow_at, flow_in, flow_through, link_at, sky_of};
 ghost use Rattle.cpl_fast.specs.PartLists.{HaveCounts};
 ghost use Rattle.cpl_fast.specs.Places.{place_in, used_at};
@@ -175,10 +175,8 @@ fn row_flows(
 )
     requires rates { AreRates rates.now }
     requires can { (k : ℕ) → k < tables.now.width → CanFlow sky.now tables.now parts.now row k }
+    requires fit { FitFlows tables.now flows.old }
     requires row { row < length tables.now.links.items }
-    requires flows { length flows.old ≡ length tables.now.links.items * tables.now.width }
-    requires areas { length tables.now.areas.items ≡ length tables.now.links.items * tables.now.width }
-    requires used { AreUsed tables.now }
     requires parts { HaveCounts parts.now }
     requires cell { (link_at tables.now.links.items row).surface < length parts.now.heat.now }
     requires width { tables.now.width ≡ parts.now.categories + 1 }
@@ -209,11 +207,8 @@ pub(crate) fn list_flows(
     requires airs { (row : ℕ) → row < length tables.now.links.items → (link_at tables.now.links.items row).air < length skies.now }
     requires cells { (row : ℕ) → row < length tables.now.links.items → (link_at tables.now.links.items row).surface < length parts.now.heat.now }
     requires can { (row k : ℕ) → row < length tables.now.links.items → k < tables.now.width → CanFlow (sky_of skies.now tables.now row) tables.now parts.now row k }
-    requires most { tables.now.width ≤ 6 }
+    requires fit { FitFlows tables.now flows.old }
     requires few { length tables.now.links.items ≤ 1_048_576 }
-    requires flows { length flows.old ≡ length tables.now.links.items * tables.now.width }
-    requires areas { length tables.now.areas.items ≡ length tables.now.links.items * tables.now.width }
-    requires used { AreUsed tables.now }
     requires parts { HaveCounts parts.now }
     requires width { tables.now.width ≡ parts.now.categories + 1 }
     requires clear { AreClear tables.now flows.old }

@@ -1,9 +1,9 @@
 // The cells of the land after a fast step.
-ghost use Rattle.std.specs.Prelude.{◌≡◌, ℕ, ◌*◌, ◌<◌, ◌^◌, length};
+ghost use Rattle.std.specs.Prelude.{◌≡◌, ◌*◌, ◌<◌, ◌^◌, length};
 ghost use Rattle.cpl_fixed.specs.Amounts.{at};
 ghost use Rattle.cpl_mosaic.specs.Contacts.{cells_of};
 ghost use Rattle.cpl_xgrid.specs.declared.parts.Surface.TheVariants.{Land};
-ghost use Rattle.cpl_fast.specs.Surfaces.{AreRowsOf, CanGainLand, CanTakeLand, land_at, land_sums, taken_to};
+ghost use Rattle.cpl_fast.specs.Surfaces.{AreRowsOf, CanGainLand, CanTakeLand, HasTakenLand, land_at, land_sums, taken_to};
 ghost use Rattle.cpl_fast.specs.Sums.{AreSmall, IsSmallTaken};
 
 use crate::flows::Flow;
@@ -44,8 +44,7 @@ pub(crate) fn land_lists(
     water: &mut [i64],
 ) -> Taken
     requires { CanTakeLand xgrid.now flows.now heat.old water.old }
-    ensures heat { (n : ℕ) → n < length heat.old → at heat.new n ≡ (land_at xgrid.now flows.now (at heat.old n) (at water.old n) n).heat }
-    ensures water { (n : ℕ) → n < length heat.old → at water.new n ≡ (land_at xgrid.now flows.now (at heat.old n) (at water.old n) n).water }
+    ensures land { HasTakenLand xgrid.now flows.now heat.old water.old heat.new water.new }
     ensures taken { result ≡ taken_to (length heat.old) (λ n. (land_at xgrid.now flows.now (at heat.old n) (at water.old n) n).taken) }
 {
     let mut all = Taken::none();

@@ -7,6 +7,7 @@ mod fast;
 mod flows;
 mod land;
 mod layout;
+mod lists;
 mod look;
 mod numbers;
 mod ocean;

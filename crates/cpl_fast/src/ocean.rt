@@ -1,12 +1,11 @@
 // The skins and the categories of the ice after a fast step.
 ghost use Rattle.std.specs.Prelude.{◌≡◌, ℕ, ◌+◌, ◌*◌, ◌<◌, ◌≤◌, ◌^◌, length, pos, ◌+ℤ◌, All};
 ghost use Rattle.cpl_fixed.specs.Amounts.{IsAmount, at};
-ghost use Rattle.cpl_fixed.specs.declared.limits.TheConstants.{MOST_CELLS, MOST_EXCHANGE_CELLS};
+ghost use Rattle.cpl_fixed.specs.declared.limits.TheConstants.{MOST_EXCHANGE_CELLS};
 ghost use Rattle.cpl_mosaic.specs.Contacts.{cells_of};
 ghost use Rattle.cpl_xgrid.specs.Rows.{rows_of};
 ghost use Rattle.cpl_xgrid.specs.declared.parts.Surface.TheVariants.{Ocean};
-ghost use Rattle.cpl_fast.specs.Places.{IsEnd};
-ghost use Rattle.cpl_fast.specs.Surfaces.{AreRowsOf, CanGainIce, CanTakeIce, IsStill, category_gain, ice_of, ocean_at, refs_on, skin_at, taken_to};
+ghost use Rattle.cpl_fast.specs.Surfaces.{AreIceParts, AreRowsOf, CanGainIce, CanTakeIce, HasTakenIce, IsStill, category_gain, ice_of, ocean_at, refs_on, taken_to};
 ghost use Rattle.cpl_fast.specs.Sums.{AreSmall, IsSmall, IsSmallTaken, after, none, reaches, sums_in, taken, with_rain};
 
 use crate::flows::Flow;
@@ -36,41 +35,47 @@ pub struct IceTaken {
     pub heat: i128,
 }
 
-// The categories of cell n, whose exchange cells these are, gain heat, of which so many parts are looked at. A category of the area 0
-// is passed over.
+/// The parts of the ocean's mosaic, open water and then the categories: their areas, part by part, and how many of each cell are looked at.
+#[derive(Clone, Copy)]
+pub(crate) struct IceParts<'a> {
+    pub(crate) categories: usize,
+    pub(crate) area: &'a [i64],
+    pub(crate) used: &'a [u8],
+}
+
+// The categories of cell n, whose exchange cells these are, gain heat. A category of the area 0 is passed over.
 fn category_lists(
     xgrid: &XGrid,
     refs: &[XRef],
     flows: &[Flow],
-    area: &[i64],
-    used: usize,
-    cells: usize,
-    categories: usize,
+    parts: &IceParts,
     n: usize,
     heat: &mut [i64],
 ) -> IceTaken
     requires cell { n < cells_of xgrid.now.ocean }
-    requires few { n < MOST_CELLS }
-    requires categories { categories ≤ 5 }
     requires refs { refs.now ≡ refs_on xgrid.now Ocean n }
-    requires rows { AreRowsOf Ocean xgrid.now flows.now (categories + 1) n }
-    requires can { (k : ℕ) → k < categories → CanGainIce xgrid.now flows.now categories heat.old n k }
-    requires cells { cells ≡ cells_of xgrid.now.ocean }
-    requires area { length area.now ≡ cells * (categories + 1) }
-    requires used { IsEnd area.now cells (categories + 1) n used }
-    requires still { IsStill xgrid.now flows.now area.now categories n }
-    requires heat { length heat.old ≡ categories * cells_of xgrid.now.ocean }
-    ensures heat { (k : ℕ) → k < categories → at heat.new (n * categories + k) ≡ at heat.old (n * categories + k) +ℤ category_gain xgrid.now flows.now n k }
-    ensures before { (m : ℕ) → m < n * categories → at heat.new m ≡ at heat.old m }
-    ensures ahead { (m : ℕ) → n * categories + categories ≤ m → at heat.new m ≡ at heat.old m }
-    ensures value { result ≡ ice_of xgrid.now flows.now categories n }
+    requires parts { AreIceParts (cells_of xgrid.now.ocean) parts.now.area.now parts.now.used.now parts.now.categories }
+    requires rows { AreRowsOf Ocean xgrid.now flows.now (parts.now.categories + 1) n }
+    requires still { IsStill xgrid.now flows.now parts.now.area.now parts.now.categories n }
+    requires heat { length heat.old ≡ parts.now.categories * cells_of xgrid.now.ocean }
+    requires can { (k : ℕ) → k < parts.now.categories → CanGainIce xgrid.now flows.now parts.now.categories heat.old n k }
+    ensures heat { (k : ℕ) → k < parts.now.categories → at heat.new (n * parts.now.categories + k) ≡ at heat.old (n * parts.now.categories + k) +ℤ category_gain xgrid.now flows.now n k }
+    ensures before { (m : ℕ) → m < n * parts.now.categories → at heat.new m ≡ at heat.old m }
+    ensures ahead { (m : ℕ) → n * parts.now.categories + parts.now.categories ≤ m → at heat.new m ≡ at heat.old m }
+    ensures value { result ≡ ice_of xgrid.now flows.now parts.now.categories n }
     ensures rain { IsSmall (2 ^ 23) result.rain }
     ensures taken { IsSmall (2 ^ 23) result.heat }
 {
     let rows = xgrid.rows(Surface::Ocean).len();
+    let IceParts {
+        categories,
+        area,
+        used,
+    } = *parts;
+    let end = used[n] as usize;
     let mut ice = IceTaken { rain: 0, heat: 0 };
-    for k in 0..used.saturating_sub(1) {
-        if area[place_in(cells, n, k + 1)] != 0 {
+    for k in 0..end.saturating_sub(1) {
+        if area[place_in(used.len(), n, k + 1)] != 0 {
             let place = n * categories + k;
             let sums = part_sums(refs, flows, rows, k + 1);
             heat[place] = gained(heat[place], sums.heat + sums.sun);
@@ -93,39 +98,24 @@ fn skin_cell(sums: &Sums, rain: i128, heat: i64, water: i64) -> After
     gain(heat, water, taken_by(sums).with_rain(rain), sums.sun)
 }
 
-// The categories and the skins of all cells take what flowed, where `area` has the areas of all parts, part by part, and `used` how many
-// of each cell are looked at. The result is what they took from the air.
+// The categories and the skins of all cells take what flowed. The result is what they took from the air.
 pub(crate) fn ocean_lists(
     xgrid: &XGrid,
     flows: &[Flow],
-    area: &[i64],
-    used: &[u8],
-    categories: usize,
+    parts: &IceParts,
     ice_heat: &mut [i64],
     heat: &mut [i64],
     water: &mut [i64],
 ) -> Taken
-    requires { CanTakeIce xgrid.now flows.now area.now used.now categories ice_heat.old heat.old water.old }
-    ensures ice_heat { (n k : ℕ) → n < length heat.old → k < categories → at ice_heat.new (n * categories + k) ≡ at ice_heat.old (n * categories + k) +ℤ category_gain xgrid.now flows.now n k }
-    ensures heat { (n : ℕ) → n < length heat.old → at heat.new n ≡ (skin_at xgrid.now flows.now categories (at heat.old n) (at water.old n) n).heat }
-    ensures water { (n : ℕ) → n < length heat.old → at water.new n ≡ (skin_at xgrid.now flows.now categories (at heat.old n) (at water.old n) n).water }
-    ensures taken { result ≡ taken_to (length heat.old) (λ n. ocean_at xgrid.now flows.now categories n) }
+    requires { CanTakeIce xgrid.now flows.now parts.now.area.now parts.now.used.now parts.now.categories ice_heat.old heat.old water.old }
+    ensures ice { HasTakenIce xgrid.now flows.now parts.now.categories ice_heat.old heat.old water.old ice_heat.new heat.new water.new }
+    ensures taken { result ≡ taken_to (length heat.old) (λ n. ocean_at xgrid.now flows.now parts.now.categories n) }
 {
+    let area = parts.area;
     let mut all = Taken::none();
     for n in 0..heat.len() {
         let refs = xgrid.cells_of_ocean(n as u32);
-        let parts = used[n] as usize;
-        let ice = category_lists(
-            xgrid,
-            refs,
-            flows,
-            area,
-            parts,
-            heat.len(),
-            categories,
-            n,
-            ice_heat,
-        );
+        let ice = category_lists(xgrid, refs, flows, parts, n, ice_heat);
         let sums = open_sums(xgrid, refs, flows, area[n]);
         let skin = skin_cell(&sums, ice.rain, heat[n], water[n]);
         heat[n] = skin.heat;

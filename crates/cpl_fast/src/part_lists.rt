@@ -9,6 +9,7 @@ ghost use Rattle.cpl_fast.specs.Stages.{step_of};
 use crate::layout::place_in;
 use crate::stages::View;
 use cpl_flux::{Kind, Part};
+use cpl_xgrid::Surface;
 
 /// The numbers that make the parts of a surface. A state has heat and water of the first part of each cell, land or open water, and heat
 /// and ice of its categories, cell by cell. The room has the areas of all parts, part by part.
@@ -52,7 +53,7 @@ impl<'s, 'a> PartLists<'s, 'a> {
 }
 
 // The parts of the land before a step, where `area` has their areas.
-pub(crate) fn land_parts<'s, 'a>(view: &View<'s>, area: &'a [i64]) -> PartLists<'s, 'a>
+fn land_parts<'s, 'a>(view: &View<'s>, area: &'a [i64]) -> PartLists<'s, 'a>
     requires can { CanStep (step_of view.now) }
     requires areas { ArePartAreas view.now.grid.now view.now.mid.now.whole Land area.now }
     ensures { AreParts (step_of view.now) Land result }
@@ -69,7 +70,7 @@ pub(crate) fn land_parts<'s, 'a>(view: &View<'s>, area: &'a [i64]) -> PartLists<
 }
 
 // The parts of the ocean's mosaic before a step, where `area` has their areas.
-pub(crate) fn ocean_parts<'s, 'a>(view: &View<'s>, area: &'a [i64]) -> PartLists<'s, 'a>
+fn ocean_parts<'s, 'a>(view: &View<'s>, area: &'a [i64]) -> PartLists<'s, 'a>
     requires can { CanStep (step_of view.now) }
     requires areas { ArePartAreas view.now.grid.now view.now.mid.now.whole Ocean area.now }
     ensures { AreParts (step_of view.now) Ocean result }
@@ -82,5 +83,21 @@ pub(crate) fn ocean_parts<'s, 'a>(view: &View<'s>, area: &'a [i64]) -> PartLists
         ice_heat: view.mid.whole.ice_heat.as_slice(),
         ice: view.mid.whole.ice.as_slice(),
         area,
+    }
+}
+
+// The parts of either surface before a step, where `area` has their areas.
+pub(crate) fn surface_parts<'s, 'a>(
+    view: &View<'s>,
+    list: Surface,
+    area: &'a [i64],
+) -> PartLists<'s, 'a>
+    requires can { CanStep (step_of view.now) }
+    requires areas { ArePartAreas view.now.grid.now view.now.mid.now.whole list area.now }
+    ensures { AreParts (step_of view.now) list result }
+{
+    match list {
+        Surface::Land => land_parts(view, area),
+        Surface::Ocean => ocean_parts(view, area),
     }
 }

@@ -3,10 +3,10 @@ ghost use Rattle.std.specs.Prelude.{◌≡◌, ◌≢◌, ℕ, ◌*◌, ◌<◌,
 ghost use Rattle.std.specs.List.{range_with_len};
 ghost use Rattle.cpl_fixed.specs.Amounts.{IsAmount, at};
 ghost use Rattle.cpl_fixed.specs.Totals.{total_of};
-ghost use Rattle.cpl_fast.specs.Flows.{AreUsed, IsInCell, flow_at, link_at, sky_at};
+ghost use Rattle.cpl_fast.specs.Flows.{IsInCell, flow_at, link_at, sky_at};
 ghost use Rattle.cpl_fast.specs.Places.{place_in};
 ghost use Rattle.cpl_fast.specs.Rain.{AreDry, rain_on_row, rained_on};
-ghost use Rattle.cpl_fast.specs.Sums.{AreClear, IsClear, IsSmall};
+ghost use Rattle.cpl_fast.specs.Sums.{AreClear, FitFlows, IsClear, IsSmall};
 
 use crate::flows::{Flow, Sky, Tables};
 
@@ -17,10 +17,7 @@ fn row_rain(rain: i64, area: i64, tables: &Tables, row: usize, flows: &mut [Flow
     requires can { (k : ℕ) → k < tables.now.width → IsInCell area tables.now row k }
     requires row { row < length tables.now.links.items }
     requires some { 0 < tables.now.width }
-    requires width { tables.now.width ≤ 6 }
-    requires flows { length flows.old ≡ length tables.now.links.items * tables.now.width }
-    requires areas { length tables.now.areas.items ≡ length tables.now.links.items * tables.now.width }
-    requires used { AreUsed tables.now }
+    requires fit { FitFlows tables.now flows.old }
     requires clear { IsClear tables.now flows.old row }
     ensures row { (k : ℕ) → k < tables.now.width → flow_at flows.new (place_in (length tables.now.links.items) row k) ≡ rained_on rain area tables.now flows.old row k }
     ensures others { (r k : ℕ) → r < length tables.now.links.items → r ≢ row
@@ -49,11 +46,8 @@ pub(crate) fn list_rain(skies: &[Sky], rain: &[i64], tables: &Tables, flows: &mu
     requires count { length rain.now ≡ length skies.now }
     requires can { (row k : ℕ) → row < length tables.now.links.items → k < tables.now.width → IsInCell (sky_at skies.now (link_at tables.now.links.items row).air).air.area tables.now row k }
     requires some { 0 < tables.now.width }
-    requires width { tables.now.width ≤ 6 }
+    requires fit { FitFlows tables.now flows.old }
     requires few { length tables.now.links.items ≤ 1_048_576 }
-    requires flows { length flows.old ≡ length tables.now.links.items * tables.now.width }
-    requires areas { length tables.now.areas.items ≡ length tables.now.links.items * tables.now.width }
-    requires used { AreUsed tables.now }
     requires clear { AreClear tables.now flows.old }
     requires dry { AreDry tables.now flows.old }
     ensures flows { (row k : ℕ) → row < length tables.now.links.items → k < tables.now.width

@@ -9,7 +9,9 @@ ghost use Rattle.cpl_fast.specs.Flows.{flow_at, no_flow};
 ghost use Rattle.cpl_fast.specs.Rooms.{HasAreas, IsDivided, IsFastRoom, IsStillRoom, before_step};
 
 use crate::flows::{Flow, NO_FLOW, Sky, Tables};
-use crate::suns::{list_still, list_suns};
+use crate::lists::surface_suns;
+use crate::stages::View;
+use crate::suns::list_still;
 use crate::tables::{GridLinks, links_of, sum_land_areas, sum_ocean_areas};
 use cpl_diffusion::{Room, Ways, make_room, make_ways};
 use cpl_fixed::Rates;
@@ -151,29 +153,13 @@ impl FastRoom {
         requires areas { HasAreas grid.now mid.now.whole self.old }
         ensures { IsDivided (before_step grid.now rates.now month mid.now) self.new }
     {
-        // The contracts of `cells` have the laws of numbers.
-        let _airs = grid.air.mosaic.cells();
-        let _lands = grid.land.mosaic.cells();
-        let _oceans = grid.ocean.mosaic.cells();
-        let strength = rates.month[month as usize - 1];
-        let (sun, area) = (mid.whole.air_sun.as_slice(), grid.air.area.as_slice());
-        list_suns(
+        let view = View {
+            grid,
             rates,
-            Surface::Land,
-            strength,
-            sun,
-            area,
-            &self.land,
-            &mut self.land_flows,
-        );
-        list_suns(
-            rates,
-            Surface::Ocean,
-            strength,
-            sun,
-            area,
-            &self.ocean,
-            &mut self.ocean_flows,
-        );
+            month,
+            mid,
+        };
+        surface_suns(&view, Surface::Land, &self.land, &mut self.land_flows);
+        surface_suns(&view, Surface::Ocean, &self.ocean, &mut self.ocean_flows);
     }
 }

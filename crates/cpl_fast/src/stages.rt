@@ -1,19 +1,18 @@
 // The stages of a fast step, one after another, in its room.
 ghost use Rattle.std.specs.Prelude.{◌≡◌};
 ghost use Rattle.cpl_xgrid.specs.declared.parts.Surface.TheVariants.{Land, Ocean};
+ghost use Rattle.cpl_restart.specs.FastLaws.{CanStep};
 ghost use Rattle.cpl_restart.specs.FastStep.{entered, left, rain_on};
-ghost use Rattle.cpl_fast.specs.Stages.{HasAir, HasFlows, HasRained, IsFlown, IsSeen, dry, given, step_of};
+ghost use Rattle.cpl_fast.specs.Stages.{HasAir, HasFlows, HasRained, IsFlown, IsLawful, IsSeen, dry, given, step_of};
 
 use crate::air::air_lists;
-use crate::flows::list_flows;
-use crate::part_lists::{land_parts, ocean_parts};
-use crate::rain::list_rain;
+use crate::lists::{surface_flows, surface_rain};
 use crate::room::FastRoom;
-use crate::sums::{Sums, Taken, taken_by};
+use crate::sums::{FlowLists, Sums, Taken};
 use cpl_diffusion::diffuse;
 use cpl_fixed::Rates;
 use cpl_restart::Mid;
-use cpl_xgrid::Grid;
+use cpl_xgrid::{Grid, Surface};
 
 /// What a fast step goes by: the grid, the rates, the month, 1 to 12, and the state before the step.
 #[derive(Clone, Copy)]
@@ -39,6 +38,16 @@ pub(crate) struct Given {
     pub(crate) ocean: Taken,
 }
 
+// A step that can be made is lawful. The contracts of `cells` have the laws of numbers.
+pub(crate) fn step_law(view: &View)
+    requires { CanStep (step_of view.now) }
+    ensures { IsLawful (step_of view.now) }
+{
+    let _airs = view.grid.air.mosaic.cells();
+    let _lands = view.grid.land.mosaic.cells();
+    let _oceans = view.grid.ocean.mosaic.cells();
+}
+
 impl FastRoom {
     // What flows through all elements, before it rains. The result has the sums of it.
     pub(crate) fn flow(&mut self, view: &View) -> Flown
@@ -46,20 +55,20 @@ impl FastRoom {
         ensures flows { HasFlows (step_of view.now) dry self.new }
         ensures flown { IsFlown (step_of view.now) result }
     {
-        let parts = land_parts(view, &self.land_area);
-        let land = list_flows(
-            view.rates,
+        let land = surface_flows(
+            view,
+            Surface::Land,
             &self.skies,
             &self.land,
-            &parts,
+            &self.land_area,
             &mut self.land_flows,
         );
-        let parts = ocean_parts(view, &self.ocean_area);
-        let ocean = list_flows(
-            view.rates,
+        let ocean = surface_flows(
+            view,
+            Surface::Ocean,
             &self.skies,
             &self.ocean,
-            &parts,
+            &self.ocean_area,
             &mut self.ocean_flows,
         );
         Flown { land, ocean }
@@ -72,13 +81,16 @@ impl FastRoom {
         ensures flows { HasFlows (step_of view.now) dry self.new }
         ensures rained { HasRained (step_of view.now) self.new }
     {
+        let flows = FlowLists {
+            land: self.land_flows.as_slice(),
+            ocean: self.ocean_flows.as_slice(),
+            tables: &self.ocean,
+        };
         let left = air_lists(
             view.rates,
             &view.grid.xgrid,
             &self.skies,
-            &self.ocean,
-            &self.land_flows,
-            &self.ocean_flows,
+            &flows,
             &mut self.air_heat,
             &mut self.air_vapour,
             &mut self.rain,
@@ -97,13 +109,28 @@ impl FastRoom {
         ensures flows { HasFlows (step_of view.now) (rain_on (step_of view.now)) self.new }
         ensures rained { HasRained (step_of view.now) self.new }
     {
-        let (mut land, mut ocean) = (flown.land, flown.ocean);
-        land.rain = list_rain(&self.skies, &self.rain, &self.land, &mut self.land_flows);
-        ocean.rain = list_rain(&self.skies, &self.rain, &self.ocean, &mut self.ocean_flows);
+        let land = surface_rain(
+            view,
+            Surface::Land,
+            &self.skies,
+            &self.rain,
+            &self.land,
+            &mut self.land_flows,
+            flown.land,
+        );
+        let ocean = surface_rain(
+            view,
+            Surface::Ocean,
+            &self.skies,
+            &self.rain,
+            &self.ocean,
+            &mut self.ocean_flows,
+            flown.ocean,
+        );
         Given {
-            entered: (land.sun + ocean.sun) as i64,
-            land: taken_by(&land),
-            ocean: taken_by(&ocean),
+            entered: (flown.land.sun + flown.ocean.sun) as i64,
+            land,
+            ocean,
         }
     }
 

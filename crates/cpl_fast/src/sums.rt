@@ -2,8 +2,7 @@
 ghost use Rattle.std.specs.Prelude.{◌≡◌, ℕ, ◌+◌, ◌*◌, ◌<◌, ◌≤◌, ◌^◌, ◌+ℤ◌, length, All};
 ghost use Rattle.cpl_fixed.specs.Amounts.{IsAmount};
 ghost use Rattle.cpl_fixed.specs.declared.limits.TheConstants.{MOST_EXCHANGE_CELLS};
-ghost use Rattle.cpl_fast.specs.Flows.{AreUsed};
-ghost use Rattle.cpl_fast.specs.Sums.{AreClear, AreSmall, IsClear, IsSmallTaken, SumsAre, after, both_taken, in_list, in_part, in_row, in_rows, IsSmall, joined, net_heat, none, nothing, of_flow, reaches, taken, with_rain, within};
+ghost use Rattle.cpl_fast.specs.Sums.{AreSmall, FitFlows, FitTables, IsClear, IsSmallTaken, SumsAre, after, both_taken, in_list, in_part, in_row, in_rows, IsSmall, joined, net_heat, none, nothing, of_flow, reaches, taken, with_rain, within};
 
 use crate::flows::{Flow, Tables};
 use crate::layout::place_in;
@@ -65,11 +64,8 @@ impl Sums {
 // where the call is inlined.
 #[inline]
 pub(crate) fn row_sums(tables: &Tables, flows: &[Flow], row: usize) -> Sums
-    requires width { tables.now.width ≤ 6 }
+    requires fit { FitFlows tables.now flows.now }
     requires row { row < length tables.now.links.items }
-    requires flows { length flows.now ≡ length tables.now.links.items * tables.now.width }
-    requires areas { length tables.now.areas.items ≡ length flows.now }
-    requires used { AreUsed tables.now }
     requires clear { IsClear tables.now flows.now row }
     ensures value { SumsAre result (in_row flows.now (length tables.now.links.items) tables.now.width row) }
     ensures small { AreSmall tables.now.width result }
@@ -99,41 +95,41 @@ pub fn part_sums(refs: &[XRef], flows: &[Flow], rows: usize, k: usize) -> Sums
     sums
 }
 
-// The sums over the elements of an exchange cell of either list. A row of the land has one.
+/// What flows through the elements of both lists, and the tables of the ocean's. A row of the land has one element.
+#[derive(Clone, Copy)]
+pub(crate) struct FlowLists<'a> {
+    pub(crate) land: &'a [Flow],
+    pub(crate) ocean: &'a [Flow],
+    pub(crate) tables: &'a Tables,
+}
+
+// The sums over the elements of an exchange cell of either list.
 #[inline]
-fn list_sums(xref: XRef, tables: &Tables, land: &[Flow], ocean: &[Flow]) -> Sums
-    requires width { tables.now.width ≤ 6 }
-    requires row { within land.now (length tables.now.links.items) xref }
-    requires flows { length ocean.now ≡ length tables.now.links.items * tables.now.width }
-    requires areas { length tables.now.areas.items ≡ length ocean.now }
-    requires used { AreUsed tables.now }
-    requires clear { AreClear tables.now ocean.now }
-    ensures value { SumsAre result (in_list land.now ocean.now (length tables.now.links.items) tables.now.width xref.list xref.row) }
+fn list_sums(xref: XRef, flows: &FlowLists) -> Sums
+    requires fit { FitTables flows.now }
+    requires row { within flows.now xref }
+    ensures value { SumsAre result (in_list flows.now xref.list xref.row) }
     ensures small { AreSmall 6 result }
 {
     let row = xref.row as usize;
     match xref.list {
-        Surface::Land => Sums::of(&land[row]),
-        Surface::Ocean => row_sums(tables, ocean, row),
+        Surface::Land => Sums::of(&flows.land[row]),
+        Surface::Ocean => row_sums(flows.tables, flows.ocean, row),
     }
 }
 
-// The sums over all elements of exchange cells of both lists. The tables are the ocean's.
+// The sums over all elements of exchange cells of both lists.
 #[inline]
-pub(crate) fn air_sums(refs: &[XRef], tables: &Tables, land: &[Flow], ocean: &[Flow]) -> Sums
+pub(crate) fn air_sums(refs: &[XRef], flows: &FlowLists) -> Sums
     requires few { length refs.now ≤ MOST_EXCHANGE_CELLS }
-    requires width { tables.now.width ≤ 6 }
-    requires rows { All (within land.now (length tables.now.links.items)) refs.now }
-    requires flows { length ocean.now ≡ length tables.now.links.items * tables.now.width }
-    requires areas { length tables.now.areas.items ≡ length ocean.now }
-    requires used { AreUsed tables.now }
-    requires clear { AreClear tables.now ocean.now }
-    ensures value { SumsAre result (in_rows land.now ocean.now (length tables.now.links.items) tables.now.width refs.now) }
+    requires fit { FitTables flows.now }
+    requires rows { All (within flows.now) refs.now }
+    ensures value { SumsAre result (in_rows flows.now refs.now) }
     ensures small { AreSmall (6 * length refs.now) result }
 {
     let mut sums = Sums::none();
     for xref in refs {
-        sums.join(&list_sums(*xref, tables, land, ocean));
+        sums.join(&list_sums(*xref, flows));
     }
     sums
 }

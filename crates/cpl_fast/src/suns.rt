@@ -1,13 +1,13 @@
 // The sun that the elements of a list absorb. It changes neither with the air nor with the surface within a coupling step, so that it is
 // computed once for all fast steps of one.
-ghost use Rattle.std.specs.Prelude.{◌≡◌, ◌≢◌, ℕ, ◌*◌, ◌<◌, length, pos, ◌-ℤ◌, ◌≤ℤ◌};
+ghost use Rattle.std.specs.Prelude.{◌≡◌, ◌≢◌, ℕ, ◌<◌, length, pos, ◌-ℤ◌, ◌≤ℤ◌};
 ghost use Rattle.cpl_fixed.specs.Amounts.{IsAmount, at};
 ghost use Rattle.cpl_fixed.specs.Ranges.{AreRates, IsFromℤ};
 ghost use Rattle.cpl_fixed.specs.Shares.{part_of};
 ghost use Rattle.cpl_restart.specs.FastStep.{albedo};
-ghost use Rattle.cpl_fast.specs.Flows.{ArePortions, AreUsed, IsInCell, before_in, flow_at, link_at};
+ghost use Rattle.cpl_fast.specs.Flows.{ArePortions, IsInCell, before_in, flow_at, link_at};
 ghost use Rattle.cpl_fast.specs.Places.{place_in};
-ghost use Rattle.cpl_fast.specs.Sums.{AreClear, AreStill, IsClear, IsStill};
+ghost use Rattle.cpl_fast.specs.Sums.{AreClear, AreStill, FitFlows, IsClear, IsStill};
 ghost use Rattle.cpl_fast.specs.Suns.{only_sun, sun_in};
 
 use crate::flows::{Flow, NO_FLOW, Tables};
@@ -18,10 +18,8 @@ use cpl_xgrid::Surface;
 
 // Nothing flows through the elements of a row any more. Those of the area 0 aren't looked at: nothing flowed through them.
 fn row_still(tables: &Tables, row: usize, flows: &mut [Flow])
+    requires fit { FitFlows tables.now flows.old }
     requires row { row < length tables.now.links.items }
-    requires flows { length flows.old ≡ length tables.now.links.items * tables.now.width }
-    requires areas { length tables.now.areas.items ≡ length tables.now.links.items * tables.now.width }
-    requires used { AreUsed tables.now }
     requires clear { IsClear tables.now flows.old row }
     ensures row { IsStill tables.now flows.new row }
     ensures others { (r k : ℕ) → r < length tables.now.links.items → r ≢ row
@@ -36,9 +34,7 @@ fn row_still(tables: &Tables, row: usize, flows: &mut [Flow])
 
 // Nothing flows through the elements of a list any more.
 pub(crate) fn list_still(tables: &Tables, flows: &mut [Flow])
-    requires flows { length flows.old ≡ length tables.now.links.items * tables.now.width }
-    requires areas { length tables.now.areas.items ≡ length tables.now.links.items * tables.now.width }
-    requires used { AreUsed tables.now }
+    requires fit { FitFlows tables.now flows.old }
     requires clear { AreClear tables.now flows.old }
     ensures { AreStill tables.now flows.new }
 {
@@ -87,9 +83,7 @@ fn row_suns(
     requires can { (k : ℕ) → k < tables.now.width → IsInCell portions.old.whole tables.now row k }
     requires row { row < length tables.now.links.items }
     requires some { 0 < tables.now.width }
-    requires flows { length flows.old ≡ length tables.now.links.items * tables.now.width }
-    requires areas { length tables.now.areas.items ≡ length tables.now.links.items * tables.now.width }
-    requires used { AreUsed tables.now }
+    requires fit { FitFlows tables.now flows.old }
     requires clear { IsStill tables.now flows.old row }
     ensures row { (k : ℕ) → k < tables.now.width → flow_at flows.new (place_in (length tables.now.links.items) row k) ≡ only_sun (sun_in rates.now list portions.old.amount portions.old.whole tables.now row k) }
     ensures others { (r k : ℕ) → r < length tables.now.links.items → r ≢ row
@@ -127,9 +121,7 @@ pub(crate) fn list_suns(
     requires count { length area.now ≡ length sun.now }
     requires can { (row k : ℕ) → row < length tables.now.links.items → k < tables.now.width → IsInCell (at area.now (link_at tables.now.links.items row).air) tables.now row k }
     requires some { 0 < tables.now.width }
-    requires flows { length flows.old ≡ length tables.now.links.items * tables.now.width }
-    requires areas { length tables.now.areas.items ≡ length tables.now.links.items * tables.now.width }
-    requires used { AreUsed tables.now }
+    requires fit { FitFlows tables.now flows.old }
     requires still { AreStill tables.now flows.old }
     ensures { (row k : ℕ) → row < length tables.now.links.items → k < tables.now.width
         → flow_at flows.new (place_in (length tables.now.links.items) row k)

@@ -5,7 +5,7 @@ ghost use Rattle.cpl_fast.specs.Stages.{HasOtherIce, HasOtherLand, HasOtherSurfa
 ghost use Rattle.cpl_fast.specs.Surfaces.{CanTakeIce, CanTakeLand, HasTakenIce, HasTakenLand, land_at, ocean_at, taken_to};
 
 use crate::land::land_lists;
-use crate::ocean::ocean_lists;
+use crate::ocean::{IceParts, ocean_lists};
 use crate::room::FastRoom;
 use crate::sums::Taken;
 use cpl_restart::Mid;
@@ -45,12 +45,15 @@ impl FastRoom {
         mid.whole.ice_heat.swap(&mut self.ice_heat);
         mid.skin_heat.swap(&mut self.skin_heat);
         mid.skin_water.swap(&mut self.skin_water);
+        let parts = IceParts {
+            categories: grid.column.categories as usize,
+            area: self.ocean_area.as_slice(),
+            used: self.ocean_used.as_slice(),
+        };
         let taken = ocean_lists(
             &grid.xgrid,
             &self.ocean_flows,
-            &self.ocean_area,
-            &self.ocean_used,
-            grid.column.categories as usize,
+            &parts,
             &mut self.ice_heat,
             &mut self.skin_heat,
             &mut self.skin_water,

@@ -15,7 +15,7 @@ pub loop-n-preserved : goal.loop-n-preserved
 loop-n-preserved c =
     let n = c.loop-n.n in
     let after = c.air_cell-after.result in
-    let f : ℕ → Rained = λ k. rained_at c.args.rates.now c.args.xgrid.now (sky_at c.args.skies.now k).air c.args.tables.now.width c.args.land.now c.args.ocean.now k in
+    let f : ℕ → Rained = λ k. rained_at c.args.rates.now c.args.xgrid.now (sky_at c.args.skies.now k).air c.args.flows.now k in
     let is = c.air_cell-after.ensures.value in
     let heat_passed : to_z w64 (of_z w64 after.heat) ≡ after.heat = omega (arith, ints) in
     let vapour_passed : to_z w64 (of_z w64 after.vapour) ≡ after.vapour = omega (arith, ints) in
@@ -42,6 +42,6 @@ loop-n-preserved c =
 
 pub returns-clause-space : goal.returns-clause-space
 returns-clause-space c =
-    let f : ℕ → ℤ = λ k. (rained_at c.args.rates.now c.args.xgrid.now (sky_at c.args.skies.now k).air c.args.tables.now.width c.args.land.now c.args.ocean.now k).space in
+    let f : ℕ → ℤ = λ k. (rained_at c.args.rates.now c.args.xgrid.now (sky_at c.args.skies.now k).air c.args.flows.now k).space in
     let n : c.loop-n.n ≡ length c.args.skies.now = omega arith in
     c.loop-n.invariant.left ∙ ap (sum_to f) n ∙ sym (total_range f (length c.args.skies.now))

@@ -8,10 +8,10 @@ use Rattle.cpl_fast.proofs.air.air_lists.Given as goal
 
 abbrev pub invariant-loop-n : goal.invariant-loop-n
 invariant-loop-n l = record {
-  heat : (k : ℕ) → k < l.n → at l.heat k ≡ (rained_at l.rates l.xgrid (sky_at l.skies k).air l.tables.width l.land l.ocean k).heat;
-  vapour : (k : ℕ) → k < l.n → at l.vapour k ≡ (rained_at l.rates l.xgrid (sky_at l.skies k).air l.tables.width l.land l.ocean k).vapour;
-  rain : (k : ℕ) → k < l.n → at l.rain k ≡ (rained_at l.rates l.xgrid (sky_at l.skies k).air l.tables.width l.land l.ocean k).rain;
-  left : l.left ≡ sum_to (λ k. (rained_at l.rates l.xgrid (sky_at l.skies k).air l.tables.width l.land l.ocean k).space) l.n;
+  heat : (k : ℕ) → k < l.n → at l.heat k ≡ (rained_at l.rates l.xgrid (sky_at l.skies k).air l.flows k).heat;
+  vapour : (k : ℕ) → k < l.n → at l.vapour k ≡ (rained_at l.rates l.xgrid (sky_at l.skies k).air l.flows k).vapour;
+  rain : (k : ℕ) → k < l.n → at l.rain k ≡ (rained_at l.rates l.xgrid (sky_at l.skies k).air l.flows k).rain;
+  left : l.left ≡ sum_to (λ k. (rained_at l.rates l.xgrid (sky_at l.skies k).air l.flows k).space) l.n;
   least : pos 0 ≤ℤ l.left;
   most : l.left ≤ℤ pos (l.n * 2 ^ 63);
 }

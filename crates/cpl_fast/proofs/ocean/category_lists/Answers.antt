@@ -59,9 +59,9 @@ gained-requires-clause-range c =
     let n = c.args.n in
     let k = c.loop-k.k in
     let sums = c.part_sums-sums.result in
-    let now = at c.loop-k.heat (n * c.args.categories + k) in
+    let now = at c.loop-k.heat (n * c.args.parts.now.categories + k) in
     let read : to_z w64 (of_z w64 now) ≡ now = omega (arith, ints) in
-    let old = read ∙ c.loop-k.invariant.ahead (n * c.args.categories + k) (omega arith) in
+    let old = read ∙ c.loop-k.invariant.ahead (n * c.args.parts.now.categories + k) (omega arith) in
     let small = few_small c.args.refs.now _ sums c.requires.refs c.requires.rows.few c.part_sums-sums.ensures.small in
     let is = sums_here c.args.xgrid.now c.args.flows.now n (k + 1) c.args.refs.now c.rows-rows.result.now sums c.rows-rows.ensures c.requires.refs c.part_sums-sums.ensures.value in
     let gain = gain_is sums (ocean_sums c.args.xgrid.now c.args.flows.now n (k + 1)) is small in
@@ -69,7 +69,7 @@ gained-requires-clause-range c =
 
 pub bounds-heat-place : goal.bounds-heat-place
 bounds-heat-place c =
-    let place = place_within (cells_of c.args.xgrid.now.ocean) c.args.categories c.args.n c.loop-k.k c.requires.cell (omega arith) in
+    let place = place_within (cells_of c.args.xgrid.now.ocean) c.args.parts.now.categories c.args.n c.loop-k.k c.requires.cell (omega arith) in
     omega (arith, place, c.requires.heat, c.loop-k.auto.heat)
 
 pub overflow_add-ice : goal.overflow_add-ice
@@ -86,7 +86,7 @@ pub loop-k-preserved : goal.loop-k-preserved
 loop-k-preserved c =
     let n = c.args.n in
     let k = c.loop-k.k in
-    let categories = c.args.categories in
+    let categories = c.args.parts.now.categories in
     let xgrid = c.args.xgrid.now in
     let flows = c.args.flows.now in
     let inv = c.loop-k.invariant in
@@ -110,6 +110,7 @@ loop-k-preserved c =
           let rain = ap (λ (ice : IceTaken). ice.rain) w.ice-is in
           let heat = ap (λ (ice : IceTaken). ice.heat) w.ice-is in
           record {
+            last = inv.last;
             heat = λ j l. ap (λ (xs : List ℤ). at xs (n * categories + j)) w.heat-is ∙ row_more wanted c.loop-k.heat (n * categories) k (pos 0) _ place inv.heat value j l;
             before = λ m l. ap (λ (xs : List ℤ). at xs m) w.heat-is ∙ others_stay c.loop-k.heat c.args.heat.now (n * categories) k (pos 0) _ inv.before m l;
             ahead = λ m l. ap (λ (xs : List ℤ). at xs m) w.heat-is ∙ ahead_stay c.loop-k.heat c.args.heat.now (n * categories + k) (pos 0) _ inv.ahead m (omega (arith, l));
@@ -119,9 +120,9 @@ loop-k-preserved c =
             small_heat = subst (IsSmall ((k + 1) * 2 ^ 20)) (sym heat) (more_small c.loop-k.ice.heat sums.heat k (omega arith) inv.small_heat small.heat);
           }
       | else-area-place_in-ne0 w ↦
-          let place : c.place_in.result ≡ place_in (cells_of xgrid.ocean) n (k + 1) = c.place_in.ensures ∙ ap (λ (cells : ℕ). place_in cells n (k + 1)) c.requires.cells in
-          let empty : at c.args.area.now c.place_in.result ≡ pos 0 = omega (arith, ints, w.if-area-place_in-ne0.false) in
-          let nothing = c.requires.still (k + 1) (omega arith) (ap (at c.args.area.now) (sym place) ∙ empty) in
+          let place : c.place_in.result ≡ place_in (cells_of xgrid.ocean) n (k + 1) = c.place_in.ensures ∙ ap (λ (cells : ℕ). place_in cells n (k + 1)) c.requires.parts.ends.count in
+          let empty : at c.args.parts.now.area.now c.place_in.result ≡ pos 0 = omega (arith, ints, w.if-area-place_in-ne0.false) in
+          let nothing = c.requires.still (k + 1) (omega arith) (ap (at c.args.parts.now.area.now) (sym place) ∙ empty) in
           let gain : category_gain xgrid flows n k ≡ pos 0 = (λ i. (nothing i).heat +ℤ (nothing i).sun) in
           let rain_none = ap (λ (s : Sums). s.rain) nothing in
           let heat_none = ap (λ (s : Sums). s.heat) nothing in
@@ -129,6 +130,7 @@ loop-k-preserved c =
           let heat = ap (λ (ice : IceTaken). ice.heat) w.ice-is in
           let own : at c.loop-k.heat (n * categories + k) ≡ wanted k = omega (arith, ints, old, gain) in
           record {
+            last = inv.last;
             heat = λ j l. ap (λ (xs : List ℤ). at xs (n * categories + j)) w.heat-is ∙ row_passed wanted c.loop-k.heat (n * categories) k (pos 0) inv.heat own j l;
             before = λ m l. ap (λ (xs : List ℤ). at xs m) w.heat-is ∙ inv.before m l;
             ahead = λ m l. ap (λ (xs : List ℤ). at xs m) w.heat-is ∙ inv.ahead m (omega (arith, l));
@@ -140,14 +142,13 @@ loop-k-preserved c =
     ]
 
 -- nothing flows to a category that isn't looked at
-behind : (xgrid : XGridLists) (flows : List Flow) (area : List ℤ) (cells categories n used : ℕ) → cells ≡ cells_of xgrid.ocean → IsEnd area cells (categories + 1) n used → IsStill xgrid flows area categories n
+behind : (xgrid : XGridLists) (flows : List Flow) (area : List ℤ) (categories n used : ℕ) → IsEnd area (cells_of xgrid.ocean) (categories + 1) n used → IsStill xgrid flows area categories n
     → (k : ℕ) → used - 1 ≤ k → k < categories → ocean_sums xgrid flows n (k + 1) ≡ none
-behind xgrid flows area cells categories n used same end still k past l =
-    still (k + 1) (omega (arith, l)) (sym (ap (λ (count : ℕ). at area (place_in count n (k + 1))) same) ∙ end.rest (k + 1) (omega (arith, past)) (omega (arith, l)))
+behind xgrid flows area categories n used end still k past l = still (k + 1) (omega (arith, l)) (end.rest (k + 1) (omega (arith, past)) (omega (arith, l)))
 
 pub returns-clause-heat : goal.returns-clause-heat
 returns-clause-heat c k l =
-    let categories = c.args.categories in
+    let categories = c.args.parts.now.categories in
     let n = c.args.n in
     let xgrid = c.args.xgrid.now in
     let flows = c.args.flows.now in
@@ -155,7 +156,7 @@ returns-clause-heat c k l =
     elim (cases_lt k c.loop-k.k) [
       | inl here ↦ inv.heat k here
       | inr past ↦
-          let nothing = behind xgrid flows c.args.area.now c.args.cells categories n c.args.used c.requires.cells c.requires.used c.requires.still k (omega arith) l in
+          let nothing = behind xgrid flows c.args.parts.now.area.now categories n _ (c.requires.parts.ends.each n c.requires.cell) c.requires.still k (omega arith) l in
           let gain : category_gain xgrid flows n k ≡ pos 0 = (λ i. (nothing i).heat +ℤ (nothing i).sun) in
           let old = inv.ahead (n * categories + k) (omega (arith, past)) in
           omega (arith, ints, old, gain)
@@ -164,7 +165,7 @@ returns-clause-heat c k l =
 pub returns-clause-value : goal.returns-clause-value
 unfolding ice_of
 returns-clause-value c =
-    let categories = c.args.categories in
+    let categories = c.args.parts.now.categories in
     let xgrid = c.args.xgrid.now in
     let flows = c.args.flows.now in
     let n = c.args.n in
@@ -172,7 +173,7 @@ returns-clause-value c =
     let f : ℕ → ℤ = λ j. (ocean_sums xgrid flows n (j + 1)).rain in
     let g : ℕ → ℤ = λ j. (ocean_sums xgrid flows n (j + 1)).heat in
     let nothing : (k : ℕ) → c.loop-k.k ≤ k → k < categories → ocean_sums xgrid flows n (k + 1) ≡ none =
-    (λ k past l. behind xgrid flows c.args.area.now c.args.cells categories n c.args.used c.requires.cells c.requires.used c.requires.still k (omega arith) l) in
+    (λ k past l. behind xgrid flows c.args.parts.now.area.now categories n _ (c.requires.parts.ends.each n c.requires.cell) c.requires.still k (omega arith) l) in
     let rain = c.loop-k.invariant.rain ∙ sum_to_end f c.loop-k.k categories most (λ k past l. ap (λ (s : Sums). s.rain) (nothing k past l)) ∙ sym (total_range f categories) in
     let heat = c.loop-k.invariant.taken ∙ sum_to_end g c.loop-k.k categories most (λ k past l. ap (λ (s : Sums). s.heat) (nothing k past l)) ∙ sym (total_range g categories) in
     λ i. record { rain = rain i; heat = heat i }

@@ -8,6 +8,7 @@ use Rattle.cpl_fast.proofs.ocean.category_lists.Given as goal
 
 abbrev pub invariant-loop-k : goal.invariant-loop-k
 invariant-loop-k l = record {
+  last : l.end ≤ l.categories + 1;
   heat : (j : ℕ) → j < l.k → at l.heat (l.n * l.categories + j) ≡ at l.initial.heat (l.n * l.categories + j) +ℤ category_gain l.xgrid l.flows l.n j;
   before : (m : ℕ) → m < l.n * l.categories → at l.heat m ≡ at l.initial.heat m;
   ahead : (m : ℕ) → l.n * l.categories + l.k ≤ m → at l.heat m ≡ at l.initial.heat m;

@@ -1,4 +1,4 @@
-use Rattle.std.proofs.Common.{◌≡◌, ◌∙◌, refl, sym, ap, ℕ, ◌+◌, ◌*◌, ◌<◌, ◌^◌, arith, length, subst, to_z, of_z, w64, List}
+use Rattle.std.proofs.Common.{◌≡◌, ◌∙◌, refl, sym, ap, ℕ, ◌+◌, ◌*◌, ◌<◌, ◌^◌, arith, length, rules, subst, to_z, of_z, w64, List}
 use Rattle.std.specs.Prelude.{ℤ, pos, ◌+ℤ◌}
 use Rattle.std.proofs.lemmas.Int.{ints}
 use Rattle.cpl_fixed.specs.Amounts.{IsAmount, at}
@@ -20,12 +20,9 @@ use Rattle.cpl_fast.proofs.Places.{ahead_stay, rows_more, written}
 use Rattle.cpl_fast.proofs.Small.{passed, passed_small, taken_smaller, wider}
 use Rattle.cpl_fast.proofs.ocean.ocean_lists.Goals as goal
 
--- what a cell's ice takes, as water with heat, and the rain on it
+-- what a cell's ice takes, as water with heat
 of_ice : (ice other : IceTaken) → ice ≡ other → IsSmall (2 ^ 23) ice.heat → passed ice.heat ≡ other.heat
 of_ice ice other is small = passed_small ice.heat (wider (2 ^ 23) (2 ^ 60) ice.heat (omega arith) small) ∙ ap (λ (i : IceTaken). i.heat) is
-
-rain_of : (ice other : IceTaken) → ice ≡ other → IsSmall (2 ^ 23) ice.rain → passed ice.rain ≡ other.rain
-rain_of ice other is small = passed_small ice.rain (wider (2 ^ 23) (2 ^ 60) ice.rain (omega arith) small) ∙ ap (λ (i : IceTaken). i.rain) is
 
 ice_small : (ice : IceTaken) → IsSmall (2 ^ 23) ice.heat → IsSmallTaken (2 ^ 44) (record { heat = passed ice.heat; water = pos 0 })
 ice_small ice small =
@@ -38,46 +35,43 @@ open_is : (xgrid : XGridLists) (flows : List Flow) (n : ℕ) (refs : List XRef) 
 unfolding ocean_sums
 open_is xgrid flows n refs sums e is = is ∙ ap (λ (r : List XRef). sums_in flows (length (rows_of xgrid Ocean)) 0 r) e
 
--- the skin, by what was read
-skin_is : (xgrid : XGridLists) (flows : List Flow) (categories n : ℕ) (bare : Sums) (heat water rain h w : ℤ) → bare ≡ ocean_sums xgrid flows n 0 → rain ≡ (ice_of xgrid flows categories n).rain → heat ≡ h → water ≡ w
-    → after heat water (with_rain (taken bare) rain) bare.sun ≡ skin_at xgrid flows categories h w n
+-- the skin, by what was read and summed
+skin_is : (xgrid : XGridLists) (flows : List Flow) (categories n : ℕ) (refs : List XRef) (bare : Sums) (ice : IceTaken) (heat water h w : ℤ)
+    → refs ≡ refs_on xgrid Ocean n → bare ≡ sums_in flows (length (rows_of xgrid Ocean)) 0 refs → ice ≡ ice_of xgrid flows categories n → IsSmall (2 ^ 23) ice.rain → heat ≡ h → water ≡ w
+    → after heat water (with_rain (taken bare) (passed ice.rain)) bare.sun ≡ skin_at xgrid flows categories h w n
 unfolding skin_at
-skin_is xgrid flows categories n bare heat water rain h w is wet heat_is water_is = λ i. after (heat_is i) (water_is i) (with_rain (taken (is i)) (wet i)) (is i).sun
+skin_is xgrid flows categories n refs bare ice heat water h w here sums_are ice_is small heat_is water_is =
+    let is = open_is xgrid flows n refs bare here sums_are in
+    let wet = passed_small ice.rain (wider (2 ^ 23) (2 ^ 60) ice.rain (omega arith) small) ∙ ap (λ (i : IceTaken). i.rain) ice_is in
+    λ i. after (heat_is i) (water_is i) (with_rain (taken (is i)) (wet i)) (is i).sun
 
 pub open_sums-sums-requires-clause-still : goal.open_sums-sums-requires-clause-still
 open_sums-sums-requires-clause-still c e =
     let n = c.loop-n.n in
     let xgrid = c.args.xgrid.now in
     let flows = c.args.flows.now in
+    let area = c.args.parts.now.area.now in
     let refs = c.cells_of_ocean-refs.result.now in
     let first : place_in (cells_of xgrid.ocean) n 0 ≡ n = omega arith in
-    let empty : at c.args.area.now n ≡ pos 0 = omega (arith, ints, e) in
-    let still = c.requires.still n (omega arith) 0 (omega arith) (ap (at c.args.area.now) first ∙ empty) in
+    let empty : at area n ≡ pos 0 = omega (arith, ints, e) in
+    let still = c.requires.still n (omega arith) 0 (omega arith) (ap (at area) first ∙ empty) in
     open_is xgrid flows n refs (sums_in flows (length (rows_of xgrid Ocean)) 0 refs) c.cells_of_ocean-refs.ensures refl ∙ still
 
-pub skin_cell-skin-requires-clause-heat : goal.skin_cell-skin-requires-clause-heat
-skin_cell-skin-requires-clause-heat c =
+pub skin_cell-skin-requires : goal.skin_cell-skin-requires
+skin_cell-skin-requires c =
     let n = c.loop-n.n in
-    let xgrid = c.args.xgrid.now in
-    let flows = c.args.flows.now in
+    let inv = c.loop-n.invariant in
+    let can = c.requires.skins n (omega arith) in
     let heat_read : to_z w64 (of_z w64 (at c.loop-n.heat n)) ≡ at c.loop-n.heat n = omega (arith, ints) in
-    let bare = open_is xgrid flows n c.cells_of_ocean-refs.result.now c.open_sums-sums.result c.cells_of_ocean-refs.ensures c.open_sums-sums.ensures.value in
-    let wet = rain_of c.category_lists-ice.result (ice_of xgrid flows c.args.categories n) c.category_lists-ice.ensures.value c.category_lists-ice.ensures.rain in
-    let water = at c.args.water.now n in
-    let is = skin_is xgrid flows c.args.categories n c.open_sums-sums.result _ water _ (at c.args.heat.now n) water bare wet (heat_read ∙ c.loop-n.invariant.heat_ahead n (omega arith)) refl in
-    subst IsAmount (sym (ap (λ (a : After). a.heat) is)) (c.requires.skins n (omega arith)).heat_range
-
-pub skin_cell-skin-requires-clause-water : goal.skin_cell-skin-requires-clause-water
-skin_cell-skin-requires-clause-water c =
-    let n = c.loop-n.n in
-    let xgrid = c.args.xgrid.now in
-    let flows = c.args.flows.now in
     let water_read : to_z w64 (of_z w64 (at c.loop-n.water n)) ≡ at c.loop-n.water n = omega (arith, ints) in
-    let bare = open_is xgrid flows n c.cells_of_ocean-refs.result.now c.open_sums-sums.result c.cells_of_ocean-refs.ensures c.open_sums-sums.ensures.value in
-    let wet = rain_of c.category_lists-ice.result (ice_of xgrid flows c.args.categories n) c.category_lists-ice.ensures.value c.category_lists-ice.ensures.rain in
-    let heat = at c.args.heat.now n in
-    let is = skin_is xgrid flows c.args.categories n c.open_sums-sums.result heat _ _ heat (at c.args.water.now n) bare wet refl (water_read ∙ c.loop-n.invariant.water_ahead n (omega arith)) in
-    subst IsAmount (sym (ap (λ (a : After). a.water) is)) (c.requires.skins n (omega arith)).water_range
+    let is = skin_is c.args.xgrid.now c.args.flows.now c.args.parts.now.categories n c.cells_of_ocean-refs.result.now c.open_sums-sums.result c.category_lists-ice.result _ _ _ _
+    c.cells_of_ocean-refs.ensures c.open_sums-sums.ensures.value c.category_lists-ice.ensures.value c.category_lists-ice.ensures.rain (heat_read ∙ inv.heat_ahead n (omega arith)) (water_read ∙ inv.water_ahead n (omega arith)) in
+    record {
+      sums = c.open_sums-sums.ensures.small;
+      rain = search rules;
+      heat = subst IsAmount (sym (ap (λ (a : After). a.heat) is)) can.heat_range;
+      water = subst IsAmount (sym (ap (λ (a : After). a.water) is)) can.water_range;
+    }
 
 -- what a cell takes, its skin first and then its ice
 takes_all : (xgrid : XGridLists) (flows : List Flow) (categories n : ℕ) (heat water : ℤ) (all : Taken) (skin : After) (with_skin with_ice : Taken) (h : ℤ)
@@ -108,16 +102,15 @@ loop-n-preserved c =
     let n = c.loop-n.n in
     let xgrid = c.args.xgrid.now in
     let flows = c.args.flows.now in
-    let categories = c.args.categories in
+    let categories = c.args.parts.now.categories in
     let inv = c.loop-n.invariant in
     let skin = c.skin_cell-skin.result in
     let ice = c.category_lists-ice.result in
     let f : ℕ → After = λ k. skin_at xgrid flows categories (at c.args.heat.now k) (at c.args.water.now k) k in
     let heat_read : to_z w64 (of_z w64 (at c.loop-n.heat n)) ≡ at c.loop-n.heat n = omega (arith, ints) in
     let water_read : to_z w64 (of_z w64 (at c.loop-n.water n)) ≡ at c.loop-n.water n = omega (arith, ints) in
-    let bare = open_is xgrid flows n c.cells_of_ocean-refs.result.now c.open_sums-sums.result c.cells_of_ocean-refs.ensures c.open_sums-sums.ensures.value in
-    let wet = rain_of ice (ice_of xgrid flows categories n) c.category_lists-ice.ensures.value c.category_lists-ice.ensures.rain in
-    let is = c.skin_cell-skin.ensures.value ∙ skin_is xgrid flows categories n c.open_sums-sums.result _ _ _ (at c.args.heat.now n) (at c.args.water.now n) bare wet (heat_read ∙ inv.heat_ahead n (omega arith)) (water_read ∙ inv.water_ahead n (omega arith)) in
+    let is = c.skin_cell-skin.ensures.value ∙ skin_is xgrid flows categories n c.cells_of_ocean-refs.result.now c.open_sums-sums.result ice _ _ (at c.args.heat.now n) (at c.args.water.now n)
+    c.cells_of_ocean-refs.ensures c.open_sums-sums.ensures.value c.category_lists-ice.ensures.value c.category_lists-ice.ensures.rain (heat_read ∙ inv.heat_ahead n (omega arith)) (water_read ∙ inv.water_ahead n (omega arith)) in
     let heat_passed : to_z w64 (of_z w64 skin.heat) ≡ skin.heat = omega (arith, ints) in
     let water_passed : to_z w64 (of_z w64 skin.water) ≡ skin.water = omega (arith, ints) in
     let ice_heat = of_ice ice (ice_of xgrid flows categories n) c.category_lists-ice.ensures.value c.category_lists-ice.ensures.taken in

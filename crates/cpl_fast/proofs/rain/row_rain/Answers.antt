@@ -1,23 +1,21 @@
-use Rattle.std.proofs.Common.{◌≡◌, ◌≢◌, ◌∙◌, sym, ap, subst, ℕ, ◌+◌, ◌<◌, ◌≤◌, arith, to_z, of_z, w64, slice_set, length, List}
+use Rattle.std.proofs.Common.{◌≡◌, ◌∙◌, sym, ap, subst, ℕ, ◌+◌, ◌≤◌, arith, to_z, of_z, w64, slice_set, length}
 use Rattle.std.specs.Int.{w128}
 use Rattle.std.specs.Prelude.{ℤ, pos, ◌+ℤ◌}
 use Rattle.std.proofs.lemmas.Int.{ints}
 use Rattle.cpl_fixed.specs.Amounts.{IsAmount}
 use Rattle.cpl_fixed.specs.Shares.{share}
 use Rattle.cpl_diffusion.proofs.Sums.{sum_to}
-use Rattle.cpl_fast.specs.declared.flows.Flow.{Flow}
 use Rattle.cpl_fast.specs.declared.flows.Tables.{Tables}
 use Rattle.cpl_fast.specs.declared.portions.Portions.{Portions}
-use Rattle.cpl_fast.specs.Flows.{ArePortions, area_in, before_in, flow_at, no_flow}
+use Rattle.cpl_fast.specs.Flows.{ArePortions, area_in, before_in, flow_at}
 use Rattle.cpl_fast.specs.Rain.{rain_in, rained_on}
 use Rattle.cpl_fast.specs.Sums.{IsSmall}
-use Rattle.cpl_fast.proofs.Ends.{entries_behind, row_end, total_entries}
+use Rattle.cpl_fast.proofs.Ends.{row_end, total_entries}
 use Rattle.cpl_fast.proofs.Nothing.{rained_clear}
 use Rattle.cpl_fast.proofs.Parts.{amount_passed, area_read, share_none}
-use Rattle.cpl_fast.specs.Places.{place_in}
-use Rattle.cpl_fast.proofs.Placed.{ahead_stays, entry_more_by, entry_set_by, others_stand, entry_within}
 use Rattle.cpl_fast.proofs.Small.{plus_small, sum_to_more, wider}
 use Rattle.cpl_fast.proofs.Places.{area_passed, before_more, cell_passed}
+use Rattle.cpl_fast.proofs.Written.{IsWritten, all_written, one_passed, one_written}
 use Rattle.cpl_fast.proofs.rain.row_rain.Goals as goal
 use Rattle.cpl_fast.proofs.rain.row_rain.Goals.{then-b-ne0, else-b-ne0}
 
@@ -51,31 +49,26 @@ returns-clause-rain c =
     let area = area_passed c.args.area tables row 0 (c.requires.can 0 c.requires.some) in
     let rain = amount_passed c.args.rain c.requires.rain in
     let n : c.loop-k.k ≡ c.used-k-end.result = omega arith in
-    let end = row_end tables c.requires.used row c.requires.row c.used-k-end.result c.used-k-end.ensures.value in
+    let end = row_end tables c.requires.fit.used row c.requires.row c.used-k-end.result c.used-k-end.ensures.value in
     c.loop-k.invariant.sum ∙ (λ i. sum_to (rain_in (rain i) (area i) tables row) (n i))
     ∙ total_entries tables.areas.items rows tables.width row c.used-k-end.result end (rain_in c.args.rain c.args.area tables row) (λ k l empty. no_rain_in c.args.rain c.args.area tables row k empty)
 
 pub returns-clause-small : goal.returns-clause-small
 returns-clause-small c =
     let most = c.used-k-end.ensures.most in
-    let width = c.requires.width in
+    let width = c.requires.fit.width in
     wider c.loop-k.k 6 _ (omega (arith, most, width)) c.loop-k.invariant.small
 
 pub returns-clause-row : goal.returns-clause-row
 returns-clause-row c =
     let tables = c.args.tables.now in
-    let rows = length tables.links.items in
     let row = c.args.row in
     let area = area_passed c.args.area tables row 0 (c.requires.can 0 c.requires.some) in
     let rain = amount_passed c.args.rain c.requires.rain in
-    let inv = c.loop-k.invariant in
-    let n : c.loop-k.k ≡ c.used-k-end.result = omega arith in
-    let end = row_end tables c.requires.used row c.requires.row c.used-k-end.result c.used-k-end.ensures.value in
-    entries_behind tables.areas.items rows tables.width row c.used-k-end.result end (λ j. flow_at c.loop-k.flows (place_in rows row j) ≡ rained_on c.args.rain c.args.area tables c.args.flows.now row j)
-    (λ j l. inv.row j (omega (arith, n, l)) ∙ (λ i. rained_on (rain i) (area i) tables c.args.flows.now row j))
-    (λ j behind l empty. (
-    let clear = c.requires.clear j l empty in
-    inv.ahead j (omega (arith, n, behind)) ∙ clear ∙ sym (rained_clear c.args.rain c.args.area tables c.args.flows.now row j empty clear)))
+    let is = subst (IsWritten c.args.flows.now c.loop-k.flows (length tables.links.items) row c.loop-k.k) (λ i. rained_on (rain i) (area i) tables c.args.flows.now row) c.loop-k.invariant.flows in
+    all_written tables c.requires.fit.used c.args.flows.now c.loop-k.flows row c.used-k-end.result c.loop-k.k (rained_on c.args.rain c.args.area tables c.args.flows.now row)
+    c.requires.row c.used-k-end.ensures.value (omega arith) is
+    (λ j l empty. (let clear = c.requires.clear j l empty in clear ∙ sym (rained_clear c.args.rain c.args.area tables c.args.flows.now row j empty clear)))
 
 pub next-share-requires-clause-weight : goal.next-share-requires-clause-weight
 next-share-requires-clause-weight c = let least = (c.requires.can c.loop-k.k (omega arith)).least in omega (arith, ints, c.area-b.ensures, least)
@@ -100,12 +93,8 @@ loop-k-preserved c =
     let b = area_read c.area-b.result (area_in tables row k) c.args.area c.area-b.ensures low (omega (arith, ints)) limit in
     let inv = c.loop-k.invariant in
     let rows = length tables.links.items in
-    let place = entry_within rows tables.width row k c.requires.row (omega arith) in
-    let old = inv.ahead k (omega arith) in
+    let old = inv.flows.ahead k (omega arith) in
     let f = rained_on (to_z w64 (of_z w64 c.args.rain)) (to_z w64 (of_z w64 c.args.area)) tables c.args.flows.now row in
-    let Row = λ (flows : List Flow). (j : ℕ) → j < k + 1 → flow_at flows (place_in rows row j) ≡ f j in
-    let Ahead = λ (flows : List Flow). (j : ℕ) → k + 1 ≤ j → flow_at flows (place_in rows row j) ≡ flow_at c.args.flows.now (place_in rows row j) in
-    let Others = λ (flows : List Flow). (r j : ℕ) → r < rows → r ≢ row → flow_at flows (place_in rows r j) ≡ flow_at c.args.flows.now (place_in rows r j) in
     let rain = to_z w64 (of_z w64 c.args.rain) in
     let area = to_z w64 (of_z w64 c.args.area) in
     let one_more = sum_to_more (rain_in rain area tables row) k in
@@ -123,10 +112,8 @@ loop-k-preserved c =
             from = ap (λ (p : Portions). p.from) w.portions-is ∙ moved;
             sum = added ∙ (λ i. inv.sum i +ℤ part i) ∙ sym one_more;
             small = subst (IsSmall (k + 1)) (sym added) (plus_small k 1 _ _ inv.small (amount_small w.next-share.result range));
-            row = subst Row (sym set) (entry_set_by (λ j x. x ≡ f j) c.loop-k.flows rows row k no_flow _ c.requires.row (omega (arith, place)) inv.row
-                (λ i. record { heat = (old i).heat; water = (old i).water; sun = (old i).sun; rain = part i }));
-            ahead = subst Ahead (sym set) (ahead_stays c.loop-k.flows c.args.flows.now rows row k no_flow _ c.requires.row inv.ahead);
-            others = subst Others (sym set) (others_stand c.loop-k.flows c.args.flows.now rows row k no_flow _ c.requires.row inv.others);
+            flows = one_written c.args.flows.now c.loop-k.flows _ rows tables.width row k f _ c.requires.row (omega arith) (omega arith) inv.flows set
+                (λ i. record { heat = (old i).heat; water = (old i).water; sun = (old i).sun; rain = part i });
           }
       | else-b-ne0 w ↦
           let empty : area_in tables row k ≡ pos 0 = omega (arith, ints, c.area-b.ensures, w.if-b-ne0.false) in
@@ -142,9 +129,6 @@ loop-k-preserved c =
             from = ap (λ (p : Portions). p.from) w.portions-is ∙ inv.from ∙ stays;
             sum = w.sum-is ∙ inv.sum ∙ plus_none _ (rain_in rain area tables row k) none ∙ sym one_more;
             small = subst (IsSmall (k + 1)) (sym w.sum-is) (wider k (k + 1) _ (omega arith) inv.small);
-            row = subst Row (sym w.flows-is) (entry_more_by (λ j x. x ≡ f j) c.loop-k.flows rows row k no_flow inv.row
-                (old ∙ clear ∙ sym (rained_clear (to_z w64 (of_z w64 c.args.rain)) (to_z w64 (of_z w64 c.args.area)) tables c.args.flows.now row k empty clear)));
-            ahead = subst Ahead (sym w.flows-is) (λ j l. inv.ahead j (omega arith));
-            others = subst Others (sym w.flows-is) inv.others;
+            flows = one_passed c.args.flows.now c.loop-k.flows _ rows row k f inv.flows w.flows-is (clear ∙ sym (rained_clear rain area tables c.args.flows.now row k empty clear));
           }
     ]

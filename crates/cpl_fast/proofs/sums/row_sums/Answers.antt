@@ -34,7 +34,7 @@ returns-clause-value c =
     let rows = length tables.links.items in
     let f : (Flow → ℤ) → ℕ → ℤ = λ number j. number (flow_at c.args.flows.now (place_in rows row j)) in
     let n : c.loop-k.k ≡ c.used-k-end.result = omega arith in
-    let end = row_end tables c.requires.used row c.requires.row c.used-k-end.result c.used-k-end.ensures.value in
+    let end = row_end tables c.requires.fit.used row c.requires.row c.used-k-end.result c.used-k-end.ensures.value in
     let total = λ (number : Flow → ℤ) (none : number no_flow ≡ pos 0).
     ap (sum_to (f number)) n ∙ total_entries tables.areas.items rows tables.width row c.used-k-end.result end (f number) (λ k l empty. ap number (c.requires.clear k l empty) ∙ none) in
     let sums = c.loop-k.invariant.sums in

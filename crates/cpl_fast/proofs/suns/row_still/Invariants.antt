@@ -1,11 +1,7 @@
-use Rattle.std.proofs.Common.{◌≡◌, ◌≢◌, ℕ, ◌<◌, ◌≤◌, length}
-use Rattle.cpl_fast.specs.Flows.{flow_at, no_flow}
-use Rattle.cpl_fast.specs.Places.{place_in}
+use Rattle.std.proofs.Common.{length}
+use Rattle.cpl_fast.specs.Flows.{no_flow}
+use Rattle.cpl_fast.proofs.Written.{IsWritten}
 use Rattle.cpl_fast.proofs.suns.row_still.Given as goal
 
 abbrev pub invariant-loop-k : goal.invariant-loop-k
-invariant-loop-k l = record {
-  row : (j : ℕ) → j < l.k → flow_at l.flows (place_in (length l.tables.links.items) l.row j) ≡ no_flow;
-  ahead : (j : ℕ) → l.k ≤ j → flow_at l.flows (place_in (length l.tables.links.items) l.row j) ≡ flow_at l.initial.flows (place_in (length l.tables.links.items) l.row j);
-  others : (r j : ℕ) → r < length l.tables.links.items → r ≢ l.row → flow_at l.flows (place_in (length l.tables.links.items) r j) ≡ flow_at l.initial.flows (place_in (length l.tables.links.items) r j);
-}
+invariant-loop-k l = IsWritten l.initial.flows l.flows (length l.tables.links.items) l.row l.k (λ j. no_flow)

@@ -1,18 +1,16 @@
-use Rattle.std.proofs.Common.{◌≡◌, ◌≢◌, ◌∙◌, sym, ap, subst, ℕ, ◌+◌, ◌<◌, ◌≤◌, arith, to_z, of_z, w64, slice_set, length, List}
+use Rattle.std.proofs.Common.{◌≡◌, ◌∙◌, sym, ap, subst, ℕ, ◌+◌, arith, to_z, of_z, w64, slice_set, length}
 use Rattle.std.specs.Prelude.{pos, ◌+ℤ◌, ◌-ℤ◌}
 use Rattle.std.proofs.lemmas.Int.{ints}
 use Rattle.cpl_fixed.specs.Shares.{part_of, share}
 use Rattle.cpl_restart.specs.FastStep.{albedo}
 use Rattle.cpl_fast.specs.declared.flows.Flow.{Flow}
 use Rattle.cpl_fast.specs.declared.portions.Portions.{Portions}
-use Rattle.cpl_fast.specs.Flows.{ArePortions, area_in, before_in, flow_at, no_flow}
-use Rattle.cpl_fast.specs.Places.{place_in}
+use Rattle.cpl_fast.specs.Flows.{ArePortions, area_in, before_in, flow_at}
 use Rattle.cpl_fast.specs.Suns.{only_sun, sun_in}
-use Rattle.cpl_fast.proofs.Ends.{entries_behind, row_end}
 use Rattle.cpl_fast.proofs.Nothing.{no_sun_in}
 use Rattle.cpl_fast.proofs.Parts.{amount_passed, area_read}
-use Rattle.cpl_fast.proofs.Placed.{ahead_stays, entry_more_by, entry_set_by, others_stand, entry_within}
 use Rattle.cpl_fast.proofs.Places.{before_more}
+use Rattle.cpl_fast.proofs.Written.{all_written, one_passed, one_written}
 use Rattle.cpl_fast.proofs.suns.row_suns.Goals as goal
 use Rattle.cpl_fast.proofs.suns.row_suns.Goals.{then-b-ne0, else-b-ne0}
 
@@ -22,16 +20,11 @@ next-share-requires-clause-weight c = let least = (c.requires.can c.loop-k.k (om
 pub returns-clause-row : goal.returns-clause-row
 returns-clause-row c =
     let tables = c.args.tables.now in
-    let rows = length tables.links.items in
     let row = c.args.row in
     let shares = c.args.portions.now in
-    let inv = c.loop-k.invariant in
     let own = λ (j : ℕ). only_sun (sun_in c.args.rates.now c.args.list shares.amount shares.whole tables row j) in
-    let n : c.loop-k.k ≡ c.used-k-end.result = omega arith in
-    let end = row_end tables c.requires.used row c.requires.row c.used-k-end.result c.used-k-end.ensures.value in
-    entries_behind tables.areas.items rows tables.width row c.used-k-end.result end (λ j. flow_at c.loop-k.flows (place_in rows row j) ≡ own j)
-    (λ j l. inv.row j (omega (arith, n, l)))
-    (λ j behind l empty. inv.ahead j (omega (arith, n, behind)) ∙ c.requires.clear j l ∙ (λ i. only_sun (sym (no_sun_in c.args.rates.now c.args.list shares.amount shares.whole tables row j empty) i)))
+    all_written tables c.requires.fit.used c.args.flows.now c.loop-k.flows row c.used-k-end.result c.loop-k.k own c.requires.row c.used-k-end.ensures.value (omega arith) c.loop-k.invariant.flows
+    (λ j l empty. c.requires.clear j l ∙ (λ i. only_sun (sym (no_sun_in c.args.rates.now c.args.list shares.amount shares.whole tables row j empty) i)))
 
 pub next-share-requires-clause-within : goal.next-share-requires-clause-within
 next-share-requires-clause-within c =
@@ -55,14 +48,10 @@ loop-k-preserved c =
     let b = area_read c.area-b.result (area_in tables row k) c.args.portions.now.whole c.area-b.ensures low (omega (arith, ints)) limit in
     let inv = c.loop-k.invariant in
     let rows = length tables.links.items in
-    let place = entry_within rows tables.width row k c.requires.row (omega arith) in
-    let old = inv.ahead k (omega arith) ∙ c.requires.clear k (omega arith) in
+    let old = inv.flows.ahead k (omega arith) ∙ c.requires.clear k (omega arith) in
     let sun = c.args.portions.now.amount in
     let area = c.args.portions.now.whole in
     let f : ℕ → Flow = λ j. only_sun (sun_in rates list sun area tables row j) in
-    let Row = λ (flows : List Flow). (j : ℕ) → j < k + 1 → flow_at flows (place_in rows row j) ≡ f j in
-    let Ahead = λ (flows : List Flow). (j : ℕ) → k + 1 ≤ j → flow_at flows (place_in rows row j) ≡ flow_at c.args.flows.now (place_in rows row j) in
-    let Others = λ (flows : List Flow). (r j : ℕ) → r < rows → r ≢ row → flow_at flows (place_in rows r j) ≡ flow_at c.args.flows.now (place_in rows r j) in
     elim c.if-b-ne0.branch [
       | then-b-ne0 w ↦
           let range = w.next-share.ensures.range in
@@ -78,10 +67,8 @@ loop-k-preserved c =
             amount = ap (λ (p : Portions). p.amount) w.portions-is ∙ w.next-share.ensures.amount ∙ inv.amount;
             whole = ap (λ (p : Portions). p.whole) w.portions-is ∙ w.next-share.ensures.whole ∙ inv.whole;
             from = ap (λ (p : Portions). p.from) w.portions-is ∙ moved;
-            row = subst Row (sym set) (entry_set_by (λ j x. x ≡ f j) c.loop-k.flows rows row k no_flow _ c.requires.row (omega (arith, place)) inv.row
-                (λ i. record { heat = (old i).heat; water = (old i).water; sun = own i; rain = (old i).rain }));
-            ahead = subst Ahead (sym set) (ahead_stays c.loop-k.flows c.args.flows.now rows row k no_flow _ c.requires.row inv.ahead);
-            others = subst Others (sym set) (others_stand c.loop-k.flows c.args.flows.now rows row k no_flow _ c.requires.row inv.others);
+            flows = one_written c.args.flows.now c.loop-k.flows _ rows tables.width row k f _ c.requires.row (omega arith) (omega arith) inv.flows set
+                (λ i. record { heat = (old i).heat; water = (old i).water; sun = own i; rain = (old i).rain });
           }
       | else-b-ne0 w ↦
           let empty : area_in tables row k ≡ pos 0 = omega (arith, ints, c.area-b.ensures, w.if-b-ne0.false) in
@@ -93,8 +80,6 @@ loop-k-preserved c =
             amount = ap (λ (p : Portions). p.amount) w.portions-is ∙ inv.amount;
             whole = ap (λ (p : Portions). p.whole) w.portions-is ∙ inv.whole;
             from = ap (λ (p : Portions). p.from) w.portions-is ∙ inv.from ∙ stays;
-            row = subst Row (sym w.flows-is) (entry_more_by (λ j x. x ≡ f j) c.loop-k.flows rows row k no_flow inv.row (old ∙ (λ i. only_sun (sym none i))));
-            ahead = subst Ahead (sym w.flows-is) (λ j l. inv.ahead j (omega arith));
-            others = subst Others (sym w.flows-is) inv.others;
+            flows = one_passed c.args.flows.now c.loop-k.flows _ rows row k f inv.flows w.flows-is (c.requires.clear k (omega arith) ∙ (λ i. only_sun (sym none i)));
           }
     ]
