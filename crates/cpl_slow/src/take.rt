@@ -87,8 +87,8 @@ fn spread(
 }
 
 /// The beginning of a coupling step: the ice takes the flight to it, as frazil and skin, and nothing flies any more. The list of
-/// the flight to the ocean goes to `flight`, for the ocean to add it later, and the state has the list from there, which has as many
-/// numbers. What it, skin and frazil held before is of no use. It takes no memory.
+/// the flight to the ocean goes to `flight`, for the ocean to add it later: cell by cell water, heat and salt. The state has the list
+/// from there, of as many numbers. What it, skin and frazil held before is of no use. It takes no memory.
 pub fn take_flights(grid: &Grid, mid: &mut Mid, flight: &mut Vec<i64>, room: &mut SlowRoom)
     requires can { CanTake grid.now mid.old }
     requires count { length flight.old.items ≡ 3 * ocean_cells grid.now }

@@ -50,33 +50,22 @@ module _ (grid : Grid) (whole : Whole) (holdings : Holdings) (are : Hold grid wh
     salt = record { small = are.salt; total = (let e = ap sum_of_stocks (are.each Salt) in let most = totals Salt in omega (arith, ints, e, most)) };
   }
 
-  heat_to_ice : holdings.heat.to_ice ≡ flying_to_ice grid whole Heat
+  -- what flies to the ice and to the ocean
+  to_ice_is : (quantity : Quantity) → (holding_of holdings quantity).to_ice ≡ flying_to_ice grid whole quantity
   unfolding stocks_of
-  heat_to_ice = ap (λ (s : StocksOf). s.to_ice) (are.each Heat)
+  to_ice_is Heat = ap (λ (s : StocksOf). s.to_ice) (are.each Heat)
+  to_ice_is Water = ap (λ (s : StocksOf). s.to_ice) (are.each Water)
+  to_ice_is Salt = ap (λ (s : StocksOf). s.to_ice) (are.each Salt)
 
-  water_to_ice : holdings.water.to_ice ≡ flying_to_ice grid whole Water
+  to_ocean_is : (quantity : Quantity) → (holding_of holdings quantity).to_ocean ≡ flying_to_ocean grid whole quantity
   unfolding stocks_of
-  water_to_ice = ap (λ (s : StocksOf). s.to_ice) (are.each Water)
-
-  salt_to_ice : holdings.salt.to_ice ≡ flying_to_ice grid whole Salt
-  unfolding stocks_of
-  salt_to_ice = ap (λ (s : StocksOf). s.to_ice) (are.each Salt)
-
-  heat_to_ocean : holdings.heat.to_ocean ≡ flying_to_ocean grid whole Heat
-  unfolding stocks_of
-  heat_to_ocean = ap (λ (s : StocksOf). s.to_ocean) (are.each Heat)
-
-  water_to_ocean : holdings.water.to_ocean ≡ flying_to_ocean grid whole Water
-  unfolding stocks_of
-  water_to_ocean = ap (λ (s : StocksOf). s.to_ocean) (are.each Water)
-
-  salt_to_ocean : holdings.salt.to_ocean ≡ flying_to_ocean grid whole Salt
-  unfolding stocks_of
-  salt_to_ocean = ap (λ (s : StocksOf). s.to_ocean) (are.each Salt)
+  to_ocean_is Heat = ap (λ (s : StocksOf). s.to_ocean) (are.each Heat)
+  to_ocean_is Water = ap (λ (s : StocksOf). s.to_ocean) (are.each Water)
+  to_ocean_is Salt = ap (λ (s : StocksOf). s.to_ocean) (are.each Salt)
 
   pub flying_is : flying_in holdings ≡ in_flight grid whole
   flying_is = λ i. pos 0 ∷ pos 0 ∷ pos 0 ∷ pos 0 ∷ pos 0 ∷ pos 0 ∷ pos 0 ∷ pos 0 ∷ pos 0
-      ∷ heat_to_ice i ∷ water_to_ice i ∷ salt_to_ice i ∷ heat_to_ocean i ∷ water_to_ocean i ∷ salt_to_ocean i ∷ []
+      ∷ to_ice_is Heat i ∷ to_ice_is Water i ∷ to_ice_is Salt i ∷ to_ocean_is Heat i ∷ to_ocean_is Water i ∷ to_ocean_is Salt i ∷ []
 
   -- what was taken, from what the state before a step holds
   pub took_is : (names : Names) (fast slow : List ℤ) → fast ≡ (all_fast_sums grid names whole).took → slow ≡ gain_sums (ocean_cells grid) (step_arrived grid names whole)
@@ -85,7 +74,7 @@ module _ (grid : Grid) (whole : Whole) (holdings : Holdings) (are : Hold grid wh
   took_is names fast slow e f =
       let none = sym (total_zeros (range_with_len 0 (ocean_cells grid))) in
       λ i. at (e i) 0 ∷ at (e i) 1 ∷ pos 0 ∷ at (e i) 2 ∷ at (e i) 3 ∷ pos 0 ∷ at (f i) 0 ∷ at (f i) 1 ∷ none i
-      ∷ heat_to_ice i ∷ water_to_ice i ∷ salt_to_ice i ∷ heat_to_ocean i ∷ water_to_ocean i ∷ salt_to_ocean i ∷ []
+      ∷ to_ice_is Heat i ∷ to_ice_is Water i ∷ to_ice_is Salt i ∷ to_ocean_is Heat i ∷ to_ocean_is Water i ∷ to_ocean_is Salt i ∷ []
 
 module _ (grid : Grid) (names : Names) (whole : Whole) (keeps : KeepsCoupling grid names whole) where
   -- what was given flies after the step, where what was taken flew before it

@@ -12,8 +12,8 @@ use Rattle.cpl_atmos.proofs.Carried.{carried_more, carried_all, west_turned, sou
 use Rattle.cpl_field.proofs.Swept.{computes_next}
 use Rattle.cpl_atmos.proofs.inner.inner_row.Goals as goal
 
-pub flow_across-east-requires-clause-divisor : goal.flow_across-east-requires-clause-divisor
-flow_across-east-requires-clause-divisor c =
+pub flow_across-east-requires : goal.flow_across-east-requires
+flow_across-east-requires c =
     let area = c.areas.inside.area in
     let x = c.args.x.now in
     let columns = ap (λ (f : FieldNumbers). f.nx) c.areas.view_is in
@@ -22,10 +22,16 @@ flow_across-east-requires-clause-divisor c =
     let kept_columns = kept.columns in
     let same = subst (λ (f : FieldNumbers). IsSameShape f x) (sym c.areas.view_is) c.requires.shape in
     let reads = inner_reads area x kept.width same kept.areas c.requires.amounts c.loop-i.i c.args.j (omega arith) (omega arith) c.row-here.result.now c.row-above.result.now c.row-area.result.now c.row-area_above.result.now c.row-here.ensures.each c.row-above.ensures.each c.row-area.ensures.each c.row-area_above.ensures.each in
-    east_divisor _ _ area _ _ kept c.loop-i.i c.args.j (omega arith) (omega arith) c.as_slice-eastward.result.now c.as_slice-eastward.ensures.value _ _ reads.area_of reads.east_area_of
+    record {
+      divisor = east_divisor _ _ area _ _ kept c.loop-i.i c.args.j (omega arith) (omega arith) c.as_slice-eastward.result.now c.as_slice-eastward.ensures.value _ _ reads.area_of reads.east_area_of;
+      amount = reads.amount.amount;
+      other_amount = reads.east_amount.amount;
+      area = reads.area_of.own;
+      other_area = reads.east_area_of.own;
+    }
 
-pub flow_across-east-requires-clause-amount : goal.flow_across-east-requires-clause-amount
-flow_across-east-requires-clause-amount c =
+pub flow_across-north-requires : goal.flow_across-north-requires
+flow_across-north-requires c =
     let area = c.areas.inside.area in
     let x = c.args.x.now in
     let columns = ap (λ (f : FieldNumbers). f.nx) c.areas.view_is in
@@ -34,103 +40,13 @@ flow_across-east-requires-clause-amount c =
     let kept_columns = kept.columns in
     let same = subst (λ (f : FieldNumbers). IsSameShape f x) (sym c.areas.view_is) c.requires.shape in
     let reads = inner_reads area x kept.width same kept.areas c.requires.amounts c.loop-i.i c.args.j (omega arith) (omega arith) c.row-here.result.now c.row-above.result.now c.row-area.result.now c.row-area_above.result.now c.row-here.ensures.each c.row-above.ensures.each c.row-area.ensures.each c.row-area_above.ensures.each in
-    reads.amount.amount
-
-pub flow_across-east-requires-clause-other_amount : goal.flow_across-east-requires-clause-other_amount
-flow_across-east-requires-clause-other_amount c =
-    let area = c.areas.inside.area in
-    let x = c.args.x.now in
-    let columns = ap (λ (f : FieldNumbers). f.nx) c.areas.view_is in
-    let rows = ap (λ (f : FieldNumbers). f.ny) c.areas.view_is in
-    let kept = c.areas.invariant in
-    let kept_columns = kept.columns in
-    let same = subst (λ (f : FieldNumbers). IsSameShape f x) (sym c.areas.view_is) c.requires.shape in
-    let reads = inner_reads area x kept.width same kept.areas c.requires.amounts c.loop-i.i c.args.j (omega arith) (omega arith) c.row-here.result.now c.row-above.result.now c.row-area.result.now c.row-area_above.result.now c.row-here.ensures.each c.row-above.ensures.each c.row-area.ensures.each c.row-area_above.ensures.each in
-    reads.east_amount.amount
-
-pub flow_across-east-requires-clause-area : goal.flow_across-east-requires-clause-area
-flow_across-east-requires-clause-area c =
-    let area = c.areas.inside.area in
-    let x = c.args.x.now in
-    let columns = ap (λ (f : FieldNumbers). f.nx) c.areas.view_is in
-    let rows = ap (λ (f : FieldNumbers). f.ny) c.areas.view_is in
-    let kept = c.areas.invariant in
-    let kept_columns = kept.columns in
-    let same = subst (λ (f : FieldNumbers). IsSameShape f x) (sym c.areas.view_is) c.requires.shape in
-    let reads = inner_reads area x kept.width same kept.areas c.requires.amounts c.loop-i.i c.args.j (omega arith) (omega arith) c.row-here.result.now c.row-above.result.now c.row-area.result.now c.row-area_above.result.now c.row-here.ensures.each c.row-above.ensures.each c.row-area.ensures.each c.row-area_above.ensures.each in
-    reads.area_of.own
-
-pub flow_across-east-requires-clause-other_area : goal.flow_across-east-requires-clause-other_area
-flow_across-east-requires-clause-other_area c =
-    let area = c.areas.inside.area in
-    let x = c.args.x.now in
-    let columns = ap (λ (f : FieldNumbers). f.nx) c.areas.view_is in
-    let rows = ap (λ (f : FieldNumbers). f.ny) c.areas.view_is in
-    let kept = c.areas.invariant in
-    let kept_columns = kept.columns in
-    let same = subst (λ (f : FieldNumbers). IsSameShape f x) (sym c.areas.view_is) c.requires.shape in
-    let reads = inner_reads area x kept.width same kept.areas c.requires.amounts c.loop-i.i c.args.j (omega arith) (omega arith) c.row-here.result.now c.row-above.result.now c.row-area.result.now c.row-area_above.result.now c.row-here.ensures.each c.row-above.ensures.each c.row-area.ensures.each c.row-area_above.ensures.each in
-    reads.east_area_of.own
-
-pub flow_across-north-requires-clause-divisor : goal.flow_across-north-requires-clause-divisor
-flow_across-north-requires-clause-divisor c =
-    let area = c.areas.inside.area in
-    let x = c.args.x.now in
-    let columns = ap (λ (f : FieldNumbers). f.nx) c.areas.view_is in
-    let rows = ap (λ (f : FieldNumbers). f.ny) c.areas.view_is in
-    let kept = c.areas.invariant in
-    let kept_columns = kept.columns in
-    let same = subst (λ (f : FieldNumbers). IsSameShape f x) (sym c.areas.view_is) c.requires.shape in
-    let reads = inner_reads area x kept.width same kept.areas c.requires.amounts c.loop-i.i c.args.j (omega arith) (omega arith) c.row-here.result.now c.row-above.result.now c.row-area.result.now c.row-area_above.result.now c.row-here.ensures.each c.row-above.ensures.each c.row-area.ensures.each c.row-area_above.ensures.each in
-    north_divisor _ _ area _ _ kept c.loop-i.i c.args.j (omega arith) (omega arith) c.as_slice-northward.result.now c.as_slice-northward.ensures.value _ _ reads.area_of reads.north_area_of
-
-pub flow_across-north-requires-clause-amount : goal.flow_across-north-requires-clause-amount
-flow_across-north-requires-clause-amount c =
-    let area = c.areas.inside.area in
-    let x = c.args.x.now in
-    let columns = ap (λ (f : FieldNumbers). f.nx) c.areas.view_is in
-    let rows = ap (λ (f : FieldNumbers). f.ny) c.areas.view_is in
-    let kept = c.areas.invariant in
-    let kept_columns = kept.columns in
-    let same = subst (λ (f : FieldNumbers). IsSameShape f x) (sym c.areas.view_is) c.requires.shape in
-    let reads = inner_reads area x kept.width same kept.areas c.requires.amounts c.loop-i.i c.args.j (omega arith) (omega arith) c.row-here.result.now c.row-above.result.now c.row-area.result.now c.row-area_above.result.now c.row-here.ensures.each c.row-above.ensures.each c.row-area.ensures.each c.row-area_above.ensures.each in
-    reads.amount.amount
-
-pub flow_across-north-requires-clause-other_amount : goal.flow_across-north-requires-clause-other_amount
-flow_across-north-requires-clause-other_amount c =
-    let area = c.areas.inside.area in
-    let x = c.args.x.now in
-    let columns = ap (λ (f : FieldNumbers). f.nx) c.areas.view_is in
-    let rows = ap (λ (f : FieldNumbers). f.ny) c.areas.view_is in
-    let kept = c.areas.invariant in
-    let kept_columns = kept.columns in
-    let same = subst (λ (f : FieldNumbers). IsSameShape f x) (sym c.areas.view_is) c.requires.shape in
-    let reads = inner_reads area x kept.width same kept.areas c.requires.amounts c.loop-i.i c.args.j (omega arith) (omega arith) c.row-here.result.now c.row-above.result.now c.row-area.result.now c.row-area_above.result.now c.row-here.ensures.each c.row-above.ensures.each c.row-area.ensures.each c.row-area_above.ensures.each in
-    reads.north_amount.amount
-
-pub flow_across-north-requires-clause-area : goal.flow_across-north-requires-clause-area
-flow_across-north-requires-clause-area c =
-    let area = c.areas.inside.area in
-    let x = c.args.x.now in
-    let columns = ap (λ (f : FieldNumbers). f.nx) c.areas.view_is in
-    let rows = ap (λ (f : FieldNumbers). f.ny) c.areas.view_is in
-    let kept = c.areas.invariant in
-    let kept_columns = kept.columns in
-    let same = subst (λ (f : FieldNumbers). IsSameShape f x) (sym c.areas.view_is) c.requires.shape in
-    let reads = inner_reads area x kept.width same kept.areas c.requires.amounts c.loop-i.i c.args.j (omega arith) (omega arith) c.row-here.result.now c.row-above.result.now c.row-area.result.now c.row-area_above.result.now c.row-here.ensures.each c.row-above.ensures.each c.row-area.ensures.each c.row-area_above.ensures.each in
-    reads.area_of.own
-
-pub flow_across-north-requires-clause-other_area : goal.flow_across-north-requires-clause-other_area
-flow_across-north-requires-clause-other_area c =
-    let area = c.areas.inside.area in
-    let x = c.args.x.now in
-    let columns = ap (λ (f : FieldNumbers). f.nx) c.areas.view_is in
-    let rows = ap (λ (f : FieldNumbers). f.ny) c.areas.view_is in
-    let kept = c.areas.invariant in
-    let kept_columns = kept.columns in
-    let same = subst (λ (f : FieldNumbers). IsSameShape f x) (sym c.areas.view_is) c.requires.shape in
-    let reads = inner_reads area x kept.width same kept.areas c.requires.amounts c.loop-i.i c.args.j (omega arith) (omega arith) c.row-here.result.now c.row-above.result.now c.row-area.result.now c.row-area_above.result.now c.row-here.ensures.each c.row-above.ensures.each c.row-area.ensures.each c.row-area_above.ensures.each in
-    reads.north_area_of.own
+    record {
+      divisor = north_divisor _ _ area _ _ kept c.loop-i.i c.args.j (omega arith) (omega arith) c.as_slice-northward.result.now c.as_slice-northward.ensures.value _ _ reads.area_of reads.north_area_of;
+      amount = reads.amount.amount;
+      other_amount = reads.north_amount.amount;
+      area = reads.area_of.own;
+      other_area = reads.north_area_of.own;
+    }
 
 pub overflow_add-values : goal.overflow_add-values
 overflow_add-values c =

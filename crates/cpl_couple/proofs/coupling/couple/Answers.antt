@@ -11,35 +11,24 @@ use Rattle.cpl_couple.proofs.coupling.couple.Goals as goal
 pub go_surface-tally-requires-clause-can : goal.go_surface-tally-requires-clause-can
 go_surface-tally-requires-clause-can c = subst (CanCoupleOn c.args.grid.now c.args.names.now) (sym c.swap.ensures.y_after) c.requires.can
 
-pub go_ocean-requires-clause-sea : goal.go_ocean-requires-clause-sea
-go_ocean-requires-clause-sea c =
-    let turn = c.swap-2.ensures.x_after ∙ c.go_surface-tally.ensures.whole ∙ ap (surface_after c.args.grid.now c.args.names.now) c.swap.ensures.y_after in
+pub go_ocean-requires : goal.go_ocean-requires
+go_ocean-requires c =
+    let grid = c.args.grid.now in
+    let names = c.args.names.now in
+    let whole = c.args.whole.now in
+    let turned = c.swap-2.new.x in
+    let flight = c.go_surface-tally.new.flight.items in
+    let turn = c.swap-2.ensures.x_after ∙ c.go_surface-tally.ensures.whole ∙ ap (surface_after grid names) c.swap.ensures.y_after in
     let flown = c.go_surface-tally.ensures.flight ∙ ap (λ (w : Whole). w.to_ocean) c.swap.ensures.y_after in
-    turned_is c.args.grid.now c.args.names.now c.args.whole.now c.requires.can c.swap-2.new.x c.go_surface-tally.new.flight.items turn flown
-
-pub go_ocean-requires-clause-flight : goal.go_ocean-requires-clause-flight
-go_ocean-requires-clause-flight c =
-    let turn = c.swap-2.ensures.x_after ∙ c.go_surface-tally.ensures.whole ∙ ap (surface_after c.args.grid.now c.args.names.now) c.swap.ensures.y_after in
-    let flown = c.go_surface-tally.ensures.flight ∙ ap (λ (w : Whole). w.to_ocean) c.swap.ensures.y_after in
-    flight_in_range c.args.grid.now c.args.names.now c.args.whole.now c.requires.can c.swap-2.new.x c.go_surface-tally.new.flight.items turn flown
-
-pub go_ocean-requires-clause-count : goal.go_ocean-requires-clause-count
-go_ocean-requires-clause-count c =
-    let turn = c.swap-2.ensures.x_after ∙ c.go_surface-tally.ensures.whole ∙ ap (surface_after c.args.grid.now c.args.names.now) c.swap.ensures.y_after in
-    let flown = c.go_surface-tally.ensures.flight ∙ ap (λ (w : Whole). w.to_ocean) c.swap.ensures.y_after in
-    flight_count c.args.grid.now c.args.names.now c.args.whole.now c.requires.can c.swap-2.new.x c.go_surface-tally.new.flight.items turn flown
-
-pub go_ocean-requires-clause-to_ice : goal.go_ocean-requires-clause-to_ice
-go_ocean-requires-clause-to_ice c =
-    let turn = c.swap-2.ensures.x_after ∙ c.go_surface-tally.ensures.whole ∙ ap (surface_after c.args.grid.now c.args.names.now) c.swap.ensures.y_after in
-    let flown = c.go_surface-tally.ensures.flight ∙ ap (λ (w : Whole). w.to_ocean) c.swap.ensures.y_after in
-    ice_count c.args.grid.now c.args.names.now c.args.whole.now c.requires.can c.swap-2.new.x c.go_surface-tally.new.flight.items turn flown
-
-pub go_ocean-requires-clause-steps : goal.go_ocean-requires-clause-steps
-go_ocean-requires-clause-steps c =
-    let turn = c.swap-2.ensures.x_after ∙ c.go_surface-tally.ensures.whole ∙ ap (surface_after c.args.grid.now c.args.names.now) c.swap.ensures.y_after in
-    let flown = c.go_surface-tally.ensures.flight ∙ ap (λ (w : Whole). w.to_ocean) c.swap.ensures.y_after in
-    flown_is c.args.grid.now c.args.names.now c.args.whole.now c.requires.can c.swap-2.new.x c.go_surface-tally.new.flight.items turn flown
+    record {
+      room = c.requires.room.sea;
+      rates = c.requires.can.run.are_names.rates;
+      sea = turned_is grid names whole c.requires.can turned flight turn flown;
+      flight = flight_in_range grid names whole c.requires.can turned flight turn flown;
+      count = flight_count grid names whole c.requires.can turned flight turn flown;
+      to_ice = ice_count grid names whole c.requires.can turned flight turn flown;
+      steps = flown_is grid names whole c.requires.can turned flight turn flown;
+    }
 
 pub overflow_add-whole : goal.overflow_add-whole
 overflow_add-whole c =

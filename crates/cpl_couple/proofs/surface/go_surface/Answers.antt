@@ -11,51 +11,45 @@ divide-requires-clause-can c =
     let some = c.requires.can.run.are_names.fast.0 in
     fast_can c.args.grid.now c.args.names.now c.args.mid.now.whole c.requires.can c.month_of-month.result c.take_flights.new.mid month c.take_flights.ensures.value 0 (omega (arith, some))
 
-pub go_fast-moved-requires-clause-can : goal.go_fast-moved-requires-clause-can
-go_fast-moved-requires-clause-can c =
+pub go_fast-moved-requires : goal.go_fast-moved-requires
+go_fast-moved-requires c =
     let month = month_is c.args.names.now c.args.mid.now.whole c.month_of-month.result c.requires.can.run.is_whole.stored.elapsed c.month_of-month.ensures in
-    fast_can c.args.grid.now c.args.names.now c.args.mid.now.whole c.requires.can c.month_of-month.result c.take_flights.new.mid month c.take_flights.ensures.value
+    record {
+      can = fast_can c.args.grid.now c.args.names.now c.args.mid.now.whole c.requires.can c.month_of-month.result c.take_flights.new.mid month c.take_flights.ensures.value;
+      range = fast_range c.args.grid.now c.args.names.now c.args.mid.now.whole c.requires.can c.month_of-month.result c.take_flights.new.mid month c.take_flights.ensures.value;
+      room = c.divide.ensures;
+    }
 
-pub go_fast-moved-requires-clause-range : goal.go_fast-moved-requires-clause-range
-go_fast-moved-requires-clause-range c =
+pub slow_step-drained-requires : goal.slow_step-drained-requires
+slow_step-drained-requires c =
     let month = month_is c.args.names.now c.args.mid.now.whole c.month_of-month.result c.requires.can.run.is_whole.stored.elapsed c.month_of-month.ensures in
-    fast_range c.args.grid.now c.args.names.now c.args.mid.now.whole c.requires.can c.month_of-month.result c.take_flights.new.mid month c.take_flights.ensures.value
+    record {
+      can = slow_can c.args.grid.now c.args.names.now c.args.mid.now.whole c.requires.can c.month_of-month.result c.take_flights.new.mid month c.take_flights.ensures.value
+          c.go_fast-moved.new.mid c.go_fast-moved.ensures.value;
+      room = c.take_flights.ensures.room c.requires.slow;
+    }
 
-pub slow_step-drained-requires-clause-can : goal.slow_step-drained-requires-clause-can
-slow_step-drained-requires-clause-can c =
-    let month = month_is c.args.names.now c.args.mid.now.whole c.month_of-month.result c.requires.can.run.is_whole.stored.elapsed c.month_of-month.ensures in
-    slow_can c.args.grid.now c.args.names.now c.args.mid.now.whole c.requires.can c.month_of-month.result c.take_flights.new.mid month c.take_flights.ensures.value
-    c.go_fast-moved.new.mid c.go_fast-moved.ensures.value
-
-pub slow_step-drained-requires-clause-room : goal.slow_step-drained-requires-clause-room
-slow_step-drained-requires-clause-room c = c.take_flights.ensures.room c.requires.slow
-
-pub returns-clause-whole : goal.returns-clause-whole
-returns-clause-whole c =
-    let month = month_is c.args.names.now c.args.mid.now.whole c.month_of-month.result c.requires.can.run.is_whole.stored.elapsed c.month_of-month.ensures in
-    last_is c.args.grid.now c.args.names.now c.args.mid.now.whole c.requires.can c.month_of-month.result c.take_flights.new.mid month c.take_flights.ensures.value
-    c.go_fast-moved.new.mid c.go_fast-moved.ensures.value c.slow_step-drained.new.mid c.slow_step-drained.ensures.value
-
-pub returns-clause-skins : goal.returns-clause-skins
-returns-clause-skins c =
-    let month = month_is c.args.names.now c.args.mid.now.whole c.month_of-month.result c.requires.can.run.is_whole.stored.elapsed c.month_of-month.ensures in
-    last_skins c.args.grid.now c.args.names.now c.args.mid.now.whole c.requires.can c.month_of-month.result c.take_flights.new.mid month c.take_flights.ensures.value
-    c.go_fast-moved.new.mid c.go_fast-moved.ensures.value c.slow_step-drained.new.mid c.slow_step-drained.ensures.value
-
-pub returns-clause-moved : goal.returns-clause-moved
-returns-clause-moved c =
-    let month = month_is c.args.names.now c.args.mid.now.whole c.month_of-month.result c.requires.can.run.is_whole.stored.elapsed c.month_of-month.ensures in
-    moved_is c.args.grid.now c.args.names.now c.args.mid.now.whole c.requires.can c.month_of-month.result c.take_flights.new.mid month c.take_flights.ensures.value
-    c.go_fast-moved.result c.go_fast-moved.ensures.tally
-
-pub returns-clause-gave : goal.returns-clause-gave
-returns-clause-gave c =
-    let month = month_is c.args.names.now c.args.mid.now.whole c.month_of-month.result c.requires.can.run.is_whole.stored.elapsed c.month_of-month.ensures in
-    runoff_is c.args.grid.now c.args.names.now c.args.mid.now.whole c.requires.can c.month_of-month.result c.take_flights.new.mid month c.take_flights.ensures.value
-    c.go_fast-moved.new.mid c.go_fast-moved.ensures.value c.slow_step-drained.result.gave c.slow_step-drained.ensures.gave
-
-pub returns-clause-took : goal.returns-clause-took
-returns-clause-took c =
-    let month = month_is c.args.names.now c.args.mid.now.whole c.month_of-month.result c.requires.can.run.is_whole.stored.elapsed c.month_of-month.ensures in
-    arrival_is c.args.grid.now c.args.names.now c.args.mid.now.whole c.requires.can c.month_of-month.result c.take_flights.new.mid month c.take_flights.ensures.value
-    c.go_fast-moved.new.mid c.go_fast-moved.ensures.value c.slow_step-drained.result.took c.slow_step-drained.ensures.took
+pub returns : goal.returns
+returns c =
+    let grid = c.args.grid.now in
+    let names = c.args.names.now in
+    let whole = c.args.mid.now.whole in
+    let can = c.requires.can in
+    let month = c.month_of-month.result in
+    let mid = c.take_flights.new.mid in
+    let in_month = month_is names whole month can.run.is_whole.stored.elapsed c.month_of-month.ensures in
+    let taken = c.take_flights.ensures.value in
+    let out = c.go_fast-moved.new.mid in
+    let went = c.go_fast-moved.ensures.value in
+    let last = c.slow_step-drained.new.mid in
+    let slowed = c.slow_step-drained.ensures.value in
+    record {
+      whole = last_is grid names whole can month mid in_month taken out went last slowed;
+      skins = last_skins grid names whole can month mid in_month taken out went last slowed;
+      flight = c.take_flights.ensures.flight;
+      fast = c.go_fast-moved.ensures.room;
+      slow = c.slow_step-drained.ensures.room;
+      moved = moved_is grid names whole can month mid in_month taken c.go_fast-moved.result c.go_fast-moved.ensures.tally;
+      gave = runoff_is grid names whole can month mid in_month taken out went c.slow_step-drained.result.gave c.slow_step-drained.ensures.gave;
+      took = arrival_is grid names whole can month mid in_month taken out went c.slow_step-drained.result.took c.slow_step-drained.ensures.took;
+    }

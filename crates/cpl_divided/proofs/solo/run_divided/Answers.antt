@@ -16,31 +16,25 @@ use Rattle.cpl_divided.proofs.solo.run_divided.Goals as goal
 pub fill-requires : goal.fill-requires
 fill-requires c = let whole = c.loop-step.invariant.heat.holds in joined c.args.mesh.now.mosaic c.args.layout.now c.loop-step.halos c.loop-step.invariant.strips c.loop-step.heats.items whole.sized
 
-pub step_all-requires-clause-airs : goal.step_all-requires-clause-airs
-step_all-requires-clause-airs c =
+pub step_all-requires : goal.step_all-requires
+step_all-requires c =
     let mesh = c.args.mesh.now in
     let layout = c.args.layout.now in
     let set : AreSet mesh layout = record { tiles = c.requires.layout; air = c.requires.mesh; mates = c.cells-cells.ensures.mates; numbers = c.cells-cells.ensures.numbers; owners = c.pieces-pieces.ensures.owners } in
     let airs : HaveAreas mesh layout c.deref_mut.result.now = subst (λ (a : List AirNumbers). HaveAreas mesh layout a) (sym c.deref_mut.ensures.value) c.loop-step.invariant.airs in
     let carried : Carries c.loop-step.halos c.loop-step.heats.items c.deref_mut-in-loop-step.result.now = subst (λ (f : List FieldNumbers). Carries c.loop-step.halos c.loop-step.heats.items f) (sym c.deref_mut-in-loop-step.ensures.value) c.fill.ensures.fields in
-    pieces_are mesh layout set c.loop-step.halos c.loop-step.invariant.strips c.deref_mut.result.now airs (diffused_by c.loop-step._step mesh c.args.air.heat) c.loop-step.invariant.heat.range c.loop-step.heats.items c.deref_mut-in-loop-step.result.now c.loop-step.invariant.heat.holds carried
-
-pub step_all-requires-clause-amounts : goal.step_all-requires-clause-amounts
-step_all-requires-clause-amounts c =
-    let mesh = c.args.mesh.now in
-    let layout = c.args.layout.now in
-    let set : AreSet mesh layout = record { tiles = c.requires.layout; air = c.requires.mesh; mates = c.cells-cells.ensures.mates; numbers = c.cells-cells.ensures.numbers; owners = c.pieces-pieces.ensures.owners } in
-    let airs : HaveAreas mesh layout c.deref_mut.result.now = subst (λ (a : List AirNumbers). HaveAreas mesh layout a) (sym c.deref_mut.ensures.value) c.loop-step.invariant.airs in
-    let carried : Carries c.loop-step.halos c.loop-step.heats.items c.deref_mut-in-loop-step.result.now = subst (λ (f : List FieldNumbers). Carries c.loop-step.halos c.loop-step.heats.items f) (sym c.deref_mut-in-loop-step.ensures.value) c.fill.ensures.fields in
-    have_amounts mesh layout set c.loop-step.halos c.loop-step.invariant.strips c.deref_mut.result.now airs (diffused_by c.loop-step._step mesh c.args.air.heat) c.loop-step.invariant.heat.range c.loop-step.heats.items c.deref_mut-in-loop-step.result.now c.loop-step.invariant.heat.holds carried
+    record {
+      airs = pieces_are mesh layout set c.loop-step.halos c.loop-step.invariant.strips c.deref_mut.result.now airs (diffused_by c.loop-step._step mesh c.args.air.heat) c.loop-step.invariant.heat.range c.loop-step.heats.items c.deref_mut-in-loop-step.result.now c.loop-step.invariant.heat.holds carried;
+      amounts = have_amounts mesh layout set c.loop-step.halos c.loop-step.invariant.strips c.deref_mut.result.now airs (diffused_by c.loop-step._step mesh c.args.air.heat) c.loop-step.invariant.heat.range c.loop-step.heats.items c.deref_mut-in-loop-step.result.now c.loop-step.invariant.heat.holds carried;
+    }
 
 pub fill-requires-in-loop-step : goal.fill-requires-in-loop-step
 fill-requires-in-loop-step c =
     let whole = c.loop-step.invariant.vapour.holds in
     subst (λ (s : List Strip). AreJoined s c.loop-step.vapours.items) (sym c.fill.ensures.strips) (joined c.args.mesh.now.mosaic c.args.layout.now c.loop-step.halos c.loop-step.invariant.strips c.loop-step.vapours.items whole.sized)
 
-pub step_all-requires-in-loop-step-clause-airs : goal.step_all-requires-in-loop-step-clause-airs
-step_all-requires-in-loop-step-clause-airs c =
+pub step_all-requires-in-loop-step : goal.step_all-requires-in-loop-step
+step_all-requires-in-loop-step c =
     let mesh = c.args.mesh.now in
     let layout = c.args.layout.now in
     let set : AreSet mesh layout = record { tiles = c.requires.layout; air = c.requires.mesh; mates = c.cells-cells.ensures.mates; numbers = c.cells-cells.ensures.numbers; owners = c.pieces-pieces.ensures.owners } in
@@ -50,20 +44,10 @@ step_all-requires-in-loop-step-clause-airs c =
     let kept : (with_items c.loop-step.airs c.step_all.new.airs).items ≡ c.step_all.new.airs = with_items_is c.loop-step.airs c.step_all.new.airs (omega (arith, c.step_all.ensures.areas.count, c.deref_mut.ensures.len)) in
     let airs_again : HaveAreas mesh layout c.deref_mut-in-loop-step-2.result.now = subst (λ (a : List AirNumbers). HaveAreas mesh layout a) (sym (c.deref_mut-in-loop-step-2.ensures.value ∙ kept)) airs_between in
     let carried_again : Carries c.fill.new.self c.loop-step.vapours.items c.deref_mut-in-loop-step-3.result.now = subst (λ (f : List FieldNumbers). Carries c.fill.new.self c.loop-step.vapours.items f) (sym c.deref_mut-in-loop-step-3.ensures.value) c.fill-in-loop-step.ensures.fields in
-    pieces_are mesh layout set c.fill.new.self strips c.deref_mut-in-loop-step-2.result.now airs_again (diffused_by c.loop-step._step mesh c.args.air.vapour) c.loop-step.invariant.vapour.range c.loop-step.vapours.items c.deref_mut-in-loop-step-3.result.now c.loop-step.invariant.vapour.holds carried_again
-
-pub step_all-requires-in-loop-step-clause-amounts : goal.step_all-requires-in-loop-step-clause-amounts
-step_all-requires-in-loop-step-clause-amounts c =
-    let mesh = c.args.mesh.now in
-    let layout = c.args.layout.now in
-    let set : AreSet mesh layout = record { tiles = c.requires.layout; air = c.requires.mesh; mates = c.cells-cells.ensures.mates; numbers = c.cells-cells.ensures.numbers; owners = c.pieces-pieces.ensures.owners } in
-    let strips : AreStrips mesh.mosaic layout 1 c.fill.new.self = subst (λ (s : List Strip). AreStrips mesh.mosaic layout 1 s) (sym c.fill.ensures.strips) c.loop-step.invariant.strips in
-    let airs_before : HaveAreas mesh layout c.deref_mut.result.now = subst (λ (a : List AirNumbers). HaveAreas mesh layout a) (sym c.deref_mut.ensures.value) c.loop-step.invariant.airs in
-    let airs_between : HaveAreas mesh layout c.step_all.new.airs = areas_kept mesh layout c.deref_mut.result.now c.step_all.new.airs airs_before c.step_all.ensures.areas in
-    let kept : (with_items c.loop-step.airs c.step_all.new.airs).items ≡ c.step_all.new.airs = with_items_is c.loop-step.airs c.step_all.new.airs (omega (arith, c.step_all.ensures.areas.count, c.deref_mut.ensures.len)) in
-    let airs_again : HaveAreas mesh layout c.deref_mut-in-loop-step-2.result.now = subst (λ (a : List AirNumbers). HaveAreas mesh layout a) (sym (c.deref_mut-in-loop-step-2.ensures.value ∙ kept)) airs_between in
-    let carried_again : Carries c.fill.new.self c.loop-step.vapours.items c.deref_mut-in-loop-step-3.result.now = subst (λ (f : List FieldNumbers). Carries c.fill.new.self c.loop-step.vapours.items f) (sym c.deref_mut-in-loop-step-3.ensures.value) c.fill-in-loop-step.ensures.fields in
-    have_amounts mesh layout set c.fill.new.self strips c.deref_mut-in-loop-step-2.result.now airs_again (diffused_by c.loop-step._step mesh c.args.air.vapour) c.loop-step.invariant.vapour.range c.loop-step.vapours.items c.deref_mut-in-loop-step-3.result.now c.loop-step.invariant.vapour.holds carried_again
+    record {
+      airs = pieces_are mesh layout set c.fill.new.self strips c.deref_mut-in-loop-step-2.result.now airs_again (diffused_by c.loop-step._step mesh c.args.air.vapour) c.loop-step.invariant.vapour.range c.loop-step.vapours.items c.deref_mut-in-loop-step-3.result.now c.loop-step.invariant.vapour.holds carried_again;
+      amounts = have_amounts mesh layout set c.fill.new.self strips c.deref_mut-in-loop-step-2.result.now airs_again (diffused_by c.loop-step._step mesh c.args.air.vapour) c.loop-step.invariant.vapour.range c.loop-step.vapours.items c.deref_mut-in-loop-step-3.result.now c.loop-step.invariant.vapour.holds carried_again;
+    }
 
 pub loop-step-init : goal.loop-step-init
 loop-step-init c =

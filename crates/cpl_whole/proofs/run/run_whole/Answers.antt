@@ -23,41 +23,20 @@ run_on-requires c =
     let travel = can_travel plan c.grid-grid.ensures.lawful (subst IsGround c.grid-grid.ensures.grid c.ground_of.ensures) in
     lent_travels plan.grid c.grid-grid.result.now plan.names c.names.result.now plan.start c.start.result.now c.grid-grid.ensures.grid c.names.ensures.names c.start.ensures.start travel
 
-pub returns-clause-stocks : goal.returns-clause-stocks
-returns-clause-stocks c =
+pub returns : goal.returns
+returns c =
     let plan = c.args.plan.now in
-    let is = lent_journey plan.grid c.grid-grid.result.now plan.names c.names.result.now plan.start c.start.result.now c.in_ok-journey.journey c.grid-grid.ensures.grid c.names.ensures.names c.start.ensures.start c.in_ok-journey.ensures in
-    c.outcome.ensures.stocks ∙ is.stocks
-
-pub returns-clause-exchanges : goal.returns-clause-exchanges
-returns-clause-exchanges c =
-    let plan = c.args.plan.now in
-    let is = lent_journey plan.grid c.grid-grid.result.now plan.names c.names.result.now plan.start c.start.result.now c.in_ok-journey.journey c.grid-grid.ensures.grid c.names.ensures.names c.start.ensures.start c.in_ok-journey.ensures in
-    c.outcome.ensures.exchanges ∙ is.exchanges
-
-pub returns-clause-last : goal.returns-clause-last
-returns-clause-last c =
-    let plan = c.args.plan.now in
-    let is = lent_journey plan.grid c.grid-grid.result.now plan.names c.names.result.now plan.start c.start.result.now c.in_ok-journey.journey c.grid-grid.ensures.grid c.names.ensures.names c.start.ensures.start c.in_ok-journey.ensures in
-    c.outcome.ensures.last ∙ is.now
-
-pub returns-clause-lawful : goal.returns-clause-lawful
-returns-clause-lawful c =
-    let plan = c.args.plan.now in
+    let steps = plan.names.steps in
     let travel = can_travel plan c.grid-grid.ensures.lawful (subst IsGround c.grid-grid.ensures.grid c.ground_of.ensures) in
     let is = lent_journey plan.grid c.grid-grid.result.now plan.names c.names.result.now plan.start c.start.result.now c.in_ok-journey.journey c.grid-grid.ensures.grid c.names.ensures.names c.start.ensures.start c.in_ok-journey.ensures in
-    subst (IsWhole plan.grid) (sym (c.outcome.ensures.last ∙ is.now)) (lawful plan.grid plan.names plan.start travel plan.names.steps (steps_all plan.names))
-
-pub returns-clause-balances : goal.returns-clause-balances
-returns-clause-balances c =
-    let plan = c.args.plan.now in
-    let travel = can_travel plan c.grid-grid.ensures.lawful (subst IsGround c.grid-grid.ensures.grid c.ground_of.ensures) in
-    let is = lent_journey plan.grid c.grid-grid.result.now plan.names c.names.result.now plan.start c.start.result.now c.in_ok-journey.journey c.grid-grid.ensures.grid c.names.ensures.names c.start.ensures.start c.in_ok-journey.ensures in
-    subst (All Balances) (sym (c.outcome.ensures.exchanges ∙ is.exchanges)) (all_balance plan.grid plan.names plan.start plan.names.steps (keeps plan.grid plan.names plan.start travel))
-
-pub returns-clause-keeps : goal.returns-clause-keeps
-returns-clause-keeps c =
-    let plan = c.args.plan.now in
-    let travel = can_travel plan c.grid-grid.ensures.lawful (subst IsGround c.grid-grid.ensures.grid c.ground_of.ensures) in
-    let is = lent_journey plan.grid c.grid-grid.result.now plan.names c.names.result.now plan.start c.start.result.now c.in_ok-journey.journey c.grid-grid.ensures.grid c.names.ensures.names c.start.ensures.start c.in_ok-journey.ensures in
-    subst (All (Keeps plan.grid plan.start)) (sym (c.outcome.ensures.stocks ∙ is.stocks)) (all_keep plan.grid plan.names plan.start plan.names.steps (course plan.grid plan.names plan.start travel))
+    let stocks = c.outcome.ensures.stocks ∙ is.stocks in
+    let exchanges = c.outcome.ensures.exchanges ∙ is.exchanges in
+    let last = c.outcome.ensures.last ∙ is.now in
+    record {
+      stocks = stocks;
+      exchanges = exchanges;
+      last = last;
+      lawful = subst (IsWhole plan.grid) (sym last) (lawful plan.grid plan.names plan.start travel steps (steps_all plan.names));
+      keeps = subst (All (Keeps plan.grid plan.start)) (sym stocks) (all_keep plan.grid plan.names plan.start steps (course plan.grid plan.names plan.start travel));
+      balances = subst (All Balances) (sym exchanges) (all_balance plan.grid plan.names plan.start steps (keeps plan.grid plan.names plan.start travel));
+    }
