@@ -11,7 +11,7 @@ top=$(cd "$(dirname "$0")/.." && pwd)
 room=$(mktemp -d)
 trap 'rm -rf "$room"' EXIT
 "$top/run.sh" 2>&1 | grep -v '^coupler: usage$' >&2 || true
-python3 "$top/tools/made_input.py" 15 64 "$room/made"
+"$top/run.sh" make 15 64 "$room/made" >/dev/null
 mv "$room/made.grid" "$room/made"
 (cd "$room" && bash "$top/tests/cases/coupled-limits/prepare")
 

@@ -14,6 +14,6 @@ trap 'rm -rf "$room"' EXIT
 "$top/run.sh" 2>&1 | grep -v '^coupler: usage$' >&2 || true
 cd "$room"
 for size in 32 48 64; do
-    python3 "$top/tools/made_input.py" 15 "$size" "$size"
+    "$top/run.sh" make 15 "$size" "$size" >/dev/null
 done
 python3 "$top/bench/measure_whole.py" "$top/crates/coupler/out/coupler" ${other:+"$other"}

@@ -3,7 +3,9 @@
 All numbers are kept as they are, whole: arrays are numpy's int64. A file that isn't what it should be raises Wrong, with
 a sentence for its user. The formats are those of docs/FORMATS.md.
 """
+import argparse
 import csv
+import os
 import sys
 
 import numpy
@@ -16,6 +18,11 @@ MAGIC_AIR, MAGIC_FIRST, MAGIC_SECOND = b"CPLAIR01", b"CPLRST01", b"CPLRST02"
 
 class Wrong(Exception):
     """A file that can't be used, and why."""
+
+
+def reason(fault):
+    """Why a file can't be read, without its name."""
+    return fault.strerror if isinstance(fault, OSError) and fault.strerror else str(fault)
 
 
 class Mosaic:
@@ -67,10 +74,13 @@ class Mosaic:
 
 
 class Grid:
-    """A grid: of the air alone, or coupled, with mosaics of atmos, land and ocean, layers and ice categories."""
+    """A grid: of the air alone, or coupled, with mosaics of atmos, land and ocean, layers and ice categories. Where they were
+    asked for, `rows` has the exchange cells of `land` and of `ocean` as arrays of (cell of the air, other cell, area), and
+    `outlets` the ways of runoff as one of (cell of the land, cell of the ocean, weight); cells by their numbers in whole order."""
 
-    def __init__(self, kind, mosaics, layers=0, categories=0):
+    def __init__(self, kind, mosaics, layers=0, categories=0, rows=None, outlets=None):
         self.kind, self.mosaics, self.layers, self.categories = kind, mosaics, layers, categories
+        self.rows, self.outlets = rows, outlets
 
     def sections(self):
         """The sections of a restart: name, mosaic, and the shape of its numbers, the cells or faces as -1."""
@@ -101,7 +111,7 @@ class Lines:
             with open(path, encoding="ascii") as file:
                 self.lines = file.read().split("\n")
         except (OSError, UnicodeDecodeError) as fault:
-            raise Wrong(f"{path}: no grid text can be read: {fault}") from None
+            raise Wrong(f"{path}: no grid text can be read: {reason(fault)}") from None
         self.path, self.at = path, 0
 
     def words(self, first, count=None):
@@ -112,34 +122,62 @@ class Lines:
             raise Wrong(f"{self.path}: line {self.at} isn't `{first} ..` as it must be")
         return words[1:]
 
+    def number(self, word):
+        if not (word.isascii() and word.isdigit() and len(word) <= 19 and int(word) < 2**63):
+            raise Wrong(f"{self.path}: line {self.at} has something else than numbers")
+        return int(word)
+
     def numbers(self, first, count):
-        try:
-            return [int(it) for it in self.words(first, count)]
-        except ValueError:
-            raise Wrong(f"{self.path}: line {self.at} has something else than numbers") from None
+        return [self.number(it) for it in self.words(first, count)]
 
     def count(self, name, of):
         words = self.words(name, 2 if of else 1)
-        if of and words[0] != of or not words[-1].isdigit():
-            raise Wrong(f"{self.path}: line {self.at} isn't `{name} {of or 'N'} ..` as it must be")
-        return int(words[-1])
+        if of and words[0] != of:
+            raise Wrong(f"{self.path}: line {self.at} isn't `{name} {of} ..` as it must be")
+        return self.number(words[-1])
+
+    def contact(self, shapes):
+        """A contact, whose ranges lie in the tiles and are equally long."""
+        words = self.words("contact", 9)
+        t, low, high, u, low2, high2 = (self.number(words[it]) for it in (0, 2, 3, 4, 6, 7))
+        for tile, side, end in ((t, words[1], high), (u, words[5], high2)):
+            if tile >= len(shapes) or len(side) != 1 or side not in SIDES or end >= shapes[tile][1 if side in "WE" else 0]:
+                raise Wrong(f"{self.path}: line {self.at} has a contact outside the mosaic")
+        if not 0 <= high - low == high2 - low2 or words[8] not in ("0", "1"):
+            raise Wrong(f"{self.path}: line {self.at} has a contact of unequal ranges")
+        return t, words[1], low, high, u, words[5], low2, high2, words[8] == "1"
 
     def mosaic(self, name):
         """A mosaic with its tiles, areas and contacts."""
         shapes, areas = [], []
         for _ in range(self.count("mosaic", name)):
             nx, ny = self.numbers("tile", 2)
+            if not (1 <= nx <= 1024 and 1 <= ny <= 1024):
+                raise Wrong(f"{self.path}: line {self.at} has a tile with a side that isn't 1 to 1,024")
             shapes.append((nx, ny))
-            areas += [self.numbers("area", nx) for _ in range(ny)]
-        contacts = []
-        for _ in range(self.count("contacts", "")):
-            t, s, low, high, u, r, low2, high2, flip = self.words("contact", 9)
-            contacts.append((int(t), s, int(low), int(high), int(u), r, int(low2), int(high2), flip == "1"))
-        return Mosaic(shapes, numpy.array([it for row in areas for it in row], "i8"), contacts)
+            for _ in range(ny):
+                areas += self.numbers("area", nx)
+        if not shapes:
+            raise Wrong(f"{self.path}: line {self.at} has a mosaic without tiles")
+        contacts = [self.contact(shapes) for _ in range(self.count("contacts", ""))]
+        return Mosaic(shapes, numpy.array(areas, "i8"), contacts)
+
+    def pairs(self, count, first, one, other):
+        """Lines of two cells and a number, as an array of cell, cell and number."""
+        made = numpy.array([self.numbers(first, 7) for _ in range(count)], "i8").reshape(-1, 7)
+        cells = []
+        for columns, mosaic in ((made[:, :3], one), (made[:, 3:6], other)):
+            shapes = numpy.array(mosaic.shapes)
+            good = columns[:, 0] < len(shapes)
+            good[good] = (columns[good, 1:] < shapes[columns[good, 0]]).all(axis=1)
+            if not good.all():
+                raise Wrong(f"{self.path}: line {self.at - count + 1 + int(numpy.argmin(good))} has a cell outside its mosaic")
+            cells.append(mosaic.firsts[columns[:, 0]] + columns[:, 2] * shapes[columns[:, 0], 0] + columns[:, 1])
+        return numpy.stack([*cells, made[:, 6]], axis=1)
 
 
-def read_grid(path):
-    """Reads a grid text, of the air or coupled. Exchange cells and outlets are passed over."""
+def read_grid(path, with_rows=False):
+    """Reads a grid text, of the air or coupled. Exchange cells and outlets are passed over where they aren't asked for."""
     lines = Lines(path)
     version, kind = lines.words("grid", 2)
     if version != "1" or kind not in ("air", "coupled"):
@@ -148,7 +186,53 @@ def read_grid(path):
     if kind == "air":
         return Grid(kind, mosaics)
     mosaics["land"], mosaics["ocean"] = lines.mosaic("land"), lines.mosaic("ocean")
-    return Grid(kind, mosaics, *lines.numbers("column", 2))
+    layers, categories = lines.numbers("column", 2)
+    if not (1 <= layers <= 8 and 1 <= categories <= 5):
+        raise Wrong(f"{path}: line {lines.at} has no 1 to 8 layers and 1 to 5 categories")
+    grid = Grid(kind, mosaics, layers, categories)
+    if with_rows:
+        grid.rows = {of: lines.pairs(lines.count("xgrid", of), "x", mosaics["atmos"], mosaics[of]) for of in ("land", "ocean")}
+        grid.outlets = lines.pairs(lines.count("outlets", ""), "o", mosaics["land"], mosaics["ocean"])
+        lines.words("end", 0)
+    return grid
+
+
+def places_of_cells(mosaic):
+    """The tile, column and row of each cell, as three arrays."""
+    tiles = numpy.repeat(numpy.arange(len(mosaic.shapes)), [nx * ny for nx, ny in mosaic.shapes])
+    within, widths = numpy.arange(mosaic.cells) - mosaic.firsts[tiles], numpy.array(mosaic.shapes)[tiles, 0]
+    return tiles, within % widths, within // widths
+
+
+def mosaic_lines(name, mosaic):
+    yield f"mosaic {name} {len(mosaic.shapes)}"
+    for tile, (nx, ny) in enumerate(mosaic.shapes):
+        yield f"tile {nx} {ny}"
+        for row in mosaic.tile(mosaic.area, tile).tolist():
+            yield "area " + " ".join(map(str, row))
+    yield f"contacts {len(mosaic.contacts)}"
+    for t, s, low, high, u, r, low2, high2, flip in mosaic.contacts:
+        yield f"contact {t} {s} {low} {high} {u} {r} {low2} {high2} {int(flip)}"
+
+
+def pair_lines(first, rows, one, other):
+    columns = [it[rows[:, 0]] for it in places_of_cells(one)] + [it[rows[:, 1]] for it in places_of_cells(other)] + [rows[:, 2]]
+    for row in zip(*(it.tolist() for it in columns)):
+        yield f"{first} " + " ".join(map(str, row))
+
+
+def grid_text(grid):
+    """The text of a coupled grid whose rows and outlets are there."""
+    lines = [f"grid 1 {grid.kind}"]
+    for name, mosaic in grid.mosaics.items():
+        lines += mosaic_lines(name, mosaic)
+    lines.append(f"column {grid.layers} {grid.categories}")
+    for of in ("land", "ocean"):
+        lines.append(f"xgrid {of} {len(grid.rows[of])}")
+        lines += pair_lines("x", grid.rows[of], grid.mosaics["atmos"], grid.mosaics[of])
+    lines.append(f"outlets {len(grid.outlets)}")
+    lines += pair_lines("o", grid.outlets, grid.mosaics["land"], grid.mosaics["ocean"])
+    return "\n".join([*lines, "end", ""])
 
 
 class State:
@@ -158,12 +242,17 @@ class State:
         self.version, self.elapsed, self.sections = version, elapsed, sections
 
 
+def category_of_most_ice(state):
+    """The category that has the most ice, the first of equal ones."""
+    return 1 + int(numpy.argmax(state.sections["ice"].sum(axis=0)))
+
+
 def sum_of(numbers):
     """The sum of numbers as unsigned 64-bit numbers, which wraps."""
     return int(numpy.sum(numbers.astype(numpy.uint64), dtype=numpy.uint64))
 
 
-class Words:
+class Numbers:
     """The numbers of a restart, one after the other."""
 
     def __init__(self, path, data):
@@ -193,12 +282,12 @@ def read_state(path, grid):
         with open(path, "rb") as file:
             data = file.read()
     except OSError as fault:
-        raise Wrong(f"{path}: {fault}") from None
+        raise Wrong(f"{path}: no state can be read: {reason(fault)}") from None
     versions = {MAGIC_AIR: "air"} if grid.kind == "air" else {MAGIC_FIRST: 1, MAGIC_SECOND: 2}
     version = versions.get(data[:8])
     if version is None:
         raise Wrong(f"{path}: no state of this kind of grid")
-    words = Words(path, data[8:])
+    words = Numbers(path, data[8:])
     elapsed = 0
     if version != "air":
         elapsed = int(words.take(1)[0])
@@ -227,21 +316,63 @@ def state_bytes(grid, state):
     return b"".join(made)
 
 
+STOCKS = "step,date,seconds,quantity,air,land,ice,ocean,to_ice,to_ocean,entered,left,total".split(",")
+EXCHANGES = "step,exchange,quantity,before,gave,took,after".split(",")
+QUANTITIES = ["heat", "water", "salt"]
+EXCHANGE_NAMES = ["air-land", "air-ice", "land-ice", "ocean-ice", "ice-ocean"]
+TEXTS = ("date", "quantity", "exchange")
+
+
 def read_table(path, columns):
     """The rows of a table as dictionaries. It must have these columns."""
     try:
         with open(path, encoding="ascii", newline="") as file:
-            rows = csv.DictReader(file)
-            if rows.fieldnames != columns:
-                raise Wrong(f"{path}: its columns aren't {','.join(columns)}")
-            found = [{key: it if key in ("date", "quantity", "exchange") else int(it) for key, it in row.items()} for row in rows]
-    except (OSError, UnicodeDecodeError, ValueError, TypeError) as fault:
-        raise Wrong(f"{path}: no table can be read: {fault}") from None
-    return found
+            lines = list(csv.reader(file))
+    except (OSError, UnicodeDecodeError, csv.Error) as fault:
+        raise Wrong(f"{path}: no table can be read: {reason(fault)}") from None
+    if not lines or lines[0] != columns:
+        raise Wrong(f"{path}: its columns aren't {','.join(columns)}")
+    made = []
+    for number, line in enumerate(lines[1:], 2):
+        try:
+            made.append({key: it if key in TEXTS else int(it) for key, it in zip(columns, line, strict=True)})
+        except ValueError:
+            raise Wrong(f"{path}: line {number} isn't a row of this table") from None
+    return made
 
 
-STOCKS = "step,date,seconds,quantity,air,land,ice,ocean,to_ice,to_ocean,entered,left,total".split(",")
-EXCHANGES = "step,exchange,quantity,before,gave,took,after".split(",")
+def check_rows(path, rows, keys, names, first):
+    """Says which row a table lacks: each step from `first` on has one for each name, in this order."""
+    for n in range(-(-len(rows) // len(names)) * len(names)):
+        step, name = first + n // len(names), names[n % len(names)]
+        if n >= len(rows) or (rows[n]["step"], *(rows[n][key] for key in keys)) != (step, *name):
+            raise Wrong(f"{path}: the row of {' '.join(name)} of step {step} is not there")
+
+
+def read_stocks(path):
+    """The rows of a table of stocks: three for each step from 0 on."""
+    rows = read_table(path, STOCKS)
+    if not rows:
+        raise Wrong(f"{path}: it has no rows")
+    check_rows(path, rows, ["quantity"], [(it,) for it in QUANTITIES], 0)
+    return rows
+
+
+def read_exchanges(path):
+    """The rows of a table of exchanges: fifteen for each step from 1 on, and none of a run of no step."""
+    rows = read_table(path, EXCHANGES)
+    check_rows(path, rows, ["exchange", "quantity"], [(name, it) for name in EXCHANGE_NAMES for it in QUANTITIES], 1)
+    return rows
+
+
+class Words(argparse.ArgumentParser):
+    """The words of a tool, which are told by its help. Wrong words end it with a sentence."""
+
+    def __init__(self, **words):
+        super().__init__(formatter_class=argparse.RawDescriptionHelpFormatter, usage=argparse.SUPPRESS, **words)
+
+    def error(self, message):
+        raise Wrong(f"{message}; {os.path.basename(sys.argv[0])} --help tells the words")
 
 
 def end_with(main):
@@ -249,6 +380,7 @@ def end_with(main):
     try:
         main()
     except Wrong as wrong:
-        sys.exit(f"{sys.argv[0].rsplit('/', 1)[-1]}: {wrong}")
+        sys.exit(f"{os.path.basename(sys.argv[0])}: {wrong}")
     except OSError as fault:
-        sys.exit(f"{sys.argv[0].rsplit('/', 1)[-1]}: {fault}")
+        where = f"{fault.filename}: " if fault.filename else ""
+        sys.exit(f"{os.path.basename(sys.argv[0])}: {where}{reason(fault)}")

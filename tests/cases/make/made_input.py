@@ -1,8 +1,9 @@
 #!/usr/bin/python3
-"""Makes the input that `coupler make NUMBER SIZE OUT` is to make, for the tests of these tools: OUT.grid and OUT.start.
+"""Makes OUT.grid and OUT.start of a made input a second time, to compare them with those of `coupler make NUMBER SIZE OUT`.
 
     made_input.py NUMBER SIZE OUT
 
+It was written by docs/FORMATS.md alone; the case beside it compares the bytes. Whoever wants an input takes `coupler make`.
 The air and the land are a cubed sphere, the ocean a tile that is cyclic and folded. All numbers come from a mixing of
 whole numbers of 64 bits. docs/FORMATS.md has the formats.
 """
@@ -115,6 +116,8 @@ class Made:
 
 
 def main():
+    if len(sys.argv) != 4 or not all(it.isascii() and it.isdigit() for it in sys.argv[1:3]) or not 1 <= int(sys.argv[2]) <= 64:
+        sys.exit(__doc__)
     number, size, out = int(sys.argv[1]), int(sys.argv[2]), sys.argv[3]
     made = Made(number, size)
     with open(out + ".grid", "w", encoding="ascii") as file:
