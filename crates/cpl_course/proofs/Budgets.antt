@@ -9,11 +9,11 @@ use Rattle.cpl_fixed.specs.Shares.{part_of}
 use Rattle.cpl_fixed.proofs.Parts.{part_grows, part_pos}
 use Rattle.cpl_namelist.specs.declared.names.Names.{Names}
 use Rattle.cpl_namelist.specs.Ranges.{AreNames}
-use Rattle.cpl_restart.specs.declared.whole.Whole.{Whole}
-use Rattle.cpl_restart.specs.Numbers.{IsStored}
-use Rattle.cpl_restart.specs.Budget.{greatest, most_sun, sun_of_strength}
-use Rattle.cpl_restart.specs.SurfaceLaws.{sun_of_step}
-use Rattle.cpl_restart.specs.CouplingStep.{month_of}
+use Rattle.cpl_state.specs.declared.whole.Whole.{Whole}
+use Rattle.cpl_state.specs.Stored.{IsStored}
+use Rattle.cpl_state.specs.Budget.{greatest, most_sun, sun_of_strength}
+use Rattle.cpl_state.specs.SurfaceLaws.{sun_of_step}
+use Rattle.cpl_state.specs.CouplingStep.{month_of}
 use Rattle.cpl_laws.proofs.Groups.{total_most}
 use Rattle.cpl_laws.proofs.Flows.{strength_least}
 use Rattle.cpl_laws.proofs.SurfaceKept.{sun_least}

@@ -1,5 +1,5 @@
 -- A coupling step keeps all.
-use Rattle.std.proofs.Common.{◌≡◌, ◌∙◌, refl, ap, ℕ, zero, suc, ◌+◌, ◌*◌, ◌^◌, arith}
+use Rattle.std.proofs.Common.{◌≡◌, ◌∙◌, refl, ap, ℕ, zero, suc, ◌+◌, ◌*◌, ◌≤◌, ◌^◌, arith}
 use Rattle.std.specs.Prelude.{pos, ◌+ℤ◌, ◌-ℤ◌, ◌≤ℤ◌, ◌<ℤ◌}
 use Rattle.std.specs.List.{range_with_len}
 use Rattle.std.proofs.lemmas.Int.{ints}
@@ -11,14 +11,14 @@ use Rattle.cpl_fixed.specs.declared.words.Quantity.TheVariants.{Heat, Water, Sal
 use Rattle.cpl_namelist.specs.declared.names.Names.{Names}
 use Rattle.cpl_namelist.specs.Ranges.{AreNames}
 use Rattle.cpl_xgrid.specs.declared.grid.Grid.{Grid}
-use Rattle.cpl_restart.specs.declared.whole.Whole.{Whole}
-use Rattle.cpl_restart.specs.States.{land_cells, ocean_cells, layers, IsWhole, IsDry, HasLengths, AreStored, IsEmptyColumn}
-use Rattle.cpl_restart.specs.FastStep.{for_each}
-use Rattle.cpl_restart.specs.Stocks.{held, stocks_of, flying_to_ice, flying_to_ocean, whole_flight, quantity_of}
-use Rattle.cpl_restart.specs.Slow.{slow_after}
-use Rattle.cpl_restart.specs.SurfaceLaws.{CanCouple, KeepsSurface, sun_of_step}
-use Rattle.cpl_restart.specs.Cut.{cut_at, after_cut}
-use Rattle.cpl_restart.specs.CouplingStep.{after_fast, surface_after, sea_after, step_after, step_entered, step_left, step_gave, step_took, step_returned}
+use Rattle.cpl_state.specs.declared.whole.Whole.{Whole}
+use Rattle.cpl_state.specs.States.{land_cells, ocean_cells, layers, IsWhole, IsDry, HasLengths, AreStored, IsEmptyColumn}
+use Rattle.cpl_state.specs.FastStep.{for_each}
+use Rattle.cpl_state.specs.Stocks.{held, stocks_of, flying_to_ice, flying_to_ocean, whole_flight, quantity_of}
+use Rattle.cpl_state.specs.Slow.{slow_after}
+use Rattle.cpl_state.specs.SurfaceLaws.{CanCouple, KeepsSurface, sun_of_step}
+use Rattle.cpl_state.specs.Cut.{cut_at, after_cut}
+use Rattle.cpl_state.specs.CouplingStep.{after_fast, surface_after, sea_after, step_after, step_entered, step_left, step_gave, step_took, step_returned, added_at}
 use Rattle.cpl_laws.proofs.Sums.{cells_same}
 use Rattle.cpl_laws.proofs.Groups.{total_zeros}
 use Rattle.cpl_laws.proofs.SlowSums.{zeros_at, cells_none, flight_heat, flight_water, flight_salt}
@@ -27,6 +27,7 @@ use Rattle.cpl_sea.proofs.TopTotals.{cut_number, cut_length}
 use Rattle.cpl_sea.specs.Seas.{IsSea}
 use Rattle.cpl_course.specs.Course.{IsGround, KeepsCoupling, in_flight, sea_at}
 use Rattle.cpl_course.proofs.Seas.{face_range, face_dry, amounts_stored}
+use Rattle.cpl_course.proofs.Taken.{ice_took, ocean_took}
 use Rattle.cpl_course.proofs.Oceans.{total_in, sea_steps, sea_cut, cut_nothing, no_cut, cut_stored, cut_total}
 
 module _ (grid : Grid) (names : Names) (whole : Whole) (ground : IsGround grid) (are : AreNames names) (lawful : IsWhole grid whole)
@@ -199,6 +200,10 @@ module _ (grid : Grid) (names : Names) (whole : Whole) (ground : IsGround grid) 
   back_is Water = flight_water grid names.rates (after_fast grid names whole) ground.numbered surface.can_slow
   back_is Salt = flight_salt grid names.rates (after_fast grid names whole) ground.numbered surface.can_slow
 
+  -- what the ocean added is what flew to it
+  sea_took : (q : Quantity) → total_of (for_each C (λ n. quantity_of q (added_at grid whole n))) ≡ flying_to_ocean grid whole q
+  sea_took q = ocean_took grid whole ground.numbered.rules.column.layers.0 lawful.lengths q
+
   balance : (place : ℕ) → at (in_flight grid whole) place +ℤ at (step_gave grid names whole) place ≡ at (step_took grid names whole) place +ℤ at (in_flight grid (step_after grid names whole)) place
   unfolding step_gave step_took
   balance zero = let e = surface.land_heat in omega (arith, ints, e)
@@ -213,13 +218,33 @@ module _ (grid : Grid) (names : Names) (whole : Whole) (ground : IsGround grid) 
       let a = total_zeros (range_with_len 0 (land_cells grid)) in
       let b = total_zeros (range_with_len 0 C) in
       omega (arith, ints, a, b)
-  balance (suc (suc (suc (suc (suc (suc (suc (suc (suc zero))))))))) = let e = cut_flies Heat in omega (arith, ints, e)
-  balance (suc (suc (suc (suc (suc (suc (suc (suc (suc (suc zero)))))))))) = let e = cut_flies Water in omega (arith, ints, e)
-  balance (suc (suc (suc (suc (suc (suc (suc (suc (suc (suc (suc zero))))))))))) = let e = cut_flies Salt in omega (arith, ints, e)
-  balance (suc (suc (suc (suc (suc (suc (suc (suc (suc (suc (suc (suc zero)))))))))))) = let a = back_flies Heat in let b = back_is Heat in omega (arith, ints, a, b)
-  balance (suc (suc (suc (suc (suc (suc (suc (suc (suc (suc (suc (suc (suc zero))))))))))))) = let a = back_flies Water in let b = back_is Water in omega (arith, ints, a, b)
-  balance (suc (suc (suc (suc (suc (suc (suc (suc (suc (suc (suc (suc (suc (suc zero)))))))))))))) = let a = back_flies Salt in let b = back_is Salt in omega (arith, ints, a, b)
+  balance (suc (suc (suc (suc (suc (suc (suc (suc (suc zero))))))))) = let e = cut_flies Heat in let t = ice_took grid whole Heat in omega (arith, ints, e, t)
+  balance (suc (suc (suc (suc (suc (suc (suc (suc (suc (suc zero)))))))))) = let e = cut_flies Water in let t = ice_took grid whole Water in omega (arith, ints, e, t)
+  balance (suc (suc (suc (suc (suc (suc (suc (suc (suc (suc (suc zero))))))))))) = let e = cut_flies Salt in let t = ice_took grid whole Salt in omega (arith, ints, e, t)
+  balance (suc (suc (suc (suc (suc (suc (suc (suc (suc (suc (suc (suc zero)))))))))))) = let a = back_flies Heat in let b = back_is Heat in let t = sea_took Heat in omega (arith, ints, a, b, t)
+  balance (suc (suc (suc (suc (suc (suc (suc (suc (suc (suc (suc (suc (suc zero))))))))))))) = let a = back_flies Water in let b = back_is Water in let t = sea_took Water in omega (arith, ints, a, b, t)
+  balance (suc (suc (suc (suc (suc (suc (suc (suc (suc (suc (suc (suc (suc (suc zero)))))))))))))) = let a = back_flies Salt in let b = back_is Salt in let t = sea_took Salt in omega (arith, ints, a, b, t)
   balance (suc (suc (suc (suc (suc (suc (suc (suc (suc (suc (suc (suc (suc (suc (suc place))))))))))))))) = refl
+
+  -- all that was in flight was taken
+  landed : (place : ℕ) → 9 ≤ place → at (step_took grid names whole) place ≡ at (in_flight grid whole) place
+  unfolding step_took
+  landed zero l = absurd (omega arith)
+  landed (suc zero) l = absurd (omega arith)
+  landed (suc (suc zero)) l = absurd (omega arith)
+  landed (suc (suc (suc zero))) l = absurd (omega arith)
+  landed (suc (suc (suc (suc zero)))) l = absurd (omega arith)
+  landed (suc (suc (suc (suc (suc zero))))) l = absurd (omega arith)
+  landed (suc (suc (suc (suc (suc (suc zero)))))) l = absurd (omega arith)
+  landed (suc (suc (suc (suc (suc (suc (suc zero))))))) l = absurd (omega arith)
+  landed (suc (suc (suc (suc (suc (suc (suc (suc zero)))))))) l = absurd (omega arith)
+  landed (suc (suc (suc (suc (suc (suc (suc (suc (suc zero))))))))) l = ice_took grid whole Heat
+  landed (suc (suc (suc (suc (suc (suc (suc (suc (suc (suc zero)))))))))) l = ice_took grid whole Water
+  landed (suc (suc (suc (suc (suc (suc (suc (suc (suc (suc (suc zero))))))))))) l = ice_took grid whole Salt
+  landed (suc (suc (suc (suc (suc (suc (suc (suc (suc (suc (suc (suc zero)))))))))))) l = sea_took Heat
+  landed (suc (suc (suc (suc (suc (suc (suc (suc (suc (suc (suc (suc (suc zero))))))))))))) l = sea_took Water
+  landed (suc (suc (suc (suc (suc (suc (suc (suc (suc (suc (suc (suc (suc (suc zero)))))))))))))) l = sea_took Salt
+  landed (suc (suc (suc (suc (suc (suc (suc (suc (suc (suc (suc (suc (suc (suc (suc place))))))))))))))) l = refl
 
   cut_kept : IsSea grid.ocean (layers grid) (after_cut grid.ocean (sea_after grid names whole))
   unfolding sea_after
@@ -235,4 +260,5 @@ module _ (grid : Grid) (names : Names) (whole : Whole) (ground : IsGround grid) 
     water = water_total;
     salt = salt_total;
     balance = balance;
+    landed = landed;
   }

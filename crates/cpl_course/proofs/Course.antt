@@ -8,11 +8,11 @@ use Rattle.cpl_fixed.specs.declared.words.Quantity.{Quantity}
 use Rattle.cpl_fixed.specs.declared.words.Quantity.TheVariants.{Heat, Water, Salt}
 use Rattle.cpl_namelist.specs.declared.names.Names.{Names}
 use Rattle.cpl_xgrid.specs.declared.grid.Grid.{Grid}
-use Rattle.cpl_restart.specs.declared.whole.Whole.{Whole}
-use Rattle.cpl_restart.specs.Stocks.{held}
-use Rattle.cpl_restart.specs.Budget.{greatest, most_sun, sun_of_strength, budget_of, IsWithinBudget}
-use Rattle.cpl_restart.specs.SurfaceLaws.{sun_of_step}
-use Rattle.cpl_restart.specs.CouplingStep.{step_after, state_after}
+use Rattle.cpl_state.specs.declared.whole.Whole.{Whole}
+use Rattle.cpl_state.specs.Stocks.{held}
+use Rattle.cpl_state.specs.Budget.{greatest, most_sun, sun_of_strength, budget_of, IsWithinBudget}
+use Rattle.cpl_state.specs.SurfaceLaws.{sun_of_step}
+use Rattle.cpl_state.specs.CouplingStep.{step_after, state_after}
 use Rattle.cpl_laws.proofs.FastRun.{times_next, times_more}
 use Rattle.cpl_course.specs.Course.{IsGround, CanRun, KeepsCoupling, IsOnCourse}
 use Rattle.cpl_course.proofs.Budgets.{most_sun_least, step_sun_most}
@@ -65,13 +65,20 @@ module _ (left : ℕ) (grid : Grid) (names : Names) (whole : Whole) (ground : Is
   room Water = can.budget.water
   room Salt = can.budget.salt
 
-  pub with_sun : (held grid whole Heat +ℤ sun_of_step names whole) ≤ℤ pos MOST_TOTAL
-  with_sun =
-      let a = heat_budget in
+  -- the budget has the sun of this step
+  sun_less : (held grid whole Heat +ℤ sun_of_step names whole) ≤ℤ (held grid whole Heat +ℤ (pos (suc left * names.fast) *ℤ most_sun names whole))
+  sun_less =
       let b = to_come in
       let c = rest_natural in
       let d = step_sun_most names whole can.are_names can.is_whole.stored.air_sun in
-      omega (arith, ints, a, b, c, d)
+      omega (arith, ints, b, c, d)
+
+  pub step_less : (held grid whole Heat +ℤ sun_of_step names whole) ≤ℤ budget_of (suc left) grid names whole Heat
+  unfolding budget_of
+  step_less = sun_less
+
+  pub with_sun : (held grid whole Heat +ℤ sun_of_step names whole) ≤ℤ pos MOST_TOTAL
+  with_sun = let a = heat_budget in let b = sun_less in omega (arith, ints, a, b)
 
   dt_natural : pos 0 ≤ℤ names.dt
   dt_natural = let dt = can.are_names.dt in omega (arith, ints, dt.0)
@@ -96,19 +103,26 @@ module _ (left : ℕ) (grid : Grid) (names : Names) (whole : Whole) (ground : Is
   unfolding step_after
   next_sun = ap (sun_of_strength (greatest names.rates.month)) coupling.surface.same.sun
 
-  next_heat : (held grid (step_after grid names whole) Heat +ℤ (pos (left * names.fast) *ℤ most_sun names (step_after grid names whole))) ≤ℤ pos MOST_TOTAL
+  -- what may be held is never more
+  next_heat : (held grid (step_after grid names whole) Heat +ℤ (pos (left * names.fast) *ℤ most_sun names (step_after grid names whole)))
+      ≤ℤ (held grid whole Heat +ℤ (pos (suc left * names.fast) *ℤ most_sun names whole))
   next_heat =
       let kept = coupling in
       let same = ap (λ (x : ℤ). pos (left * names.fast) *ℤ x) next_sun in
-      let a = heat_budget in
       let b = to_come in
       let d = step_sun_most names whole can.are_names can.is_whole.stored.air_sun in
-      omega (arith, ints, kept.heat, kept.surface.within, kept.surface.heat_left, same, a, b, d)
+      omega (arith, ints, kept.heat, kept.surface.within, kept.surface.heat_left, same, b, d)
+
+  pub budget_less : (q : Quantity) → budget_of left grid names (step_after grid names whole) q ≤ℤ budget_of (suc left) grid names whole q
+  unfolding budget_of
+  budget_less Heat = next_heat
+  budget_less Water = let kept = coupling in omega (arith, ints, kept.water)
+  budget_less Salt = let kept = coupling in omega (arith, ints, kept.salt)
 
   next_budget : IsWithinBudget left grid names (step_after grid names whole)
   unfolding budget_of
   next_budget = (let kept = coupling in record {
-    heat = next_heat;
+    heat = (let own = heat_budget in let less = next_heat in omega (arith, ints, own, less));
     water = (let own = can.budget.water in omega (arith, ints, kept.water, own));
     salt = (let own = can.budget.salt in omega (arith, ints, kept.salt, own));
   })
@@ -128,8 +142,16 @@ module _ (steps : ℕ) (grid : Grid) (names : Names) (start : Whole) (ground : I
   state n = state_after n grid names start
 
   -- the rest of a run has one step more before its next state
-  can_more : (n : ℕ) → n < steps → IsOnCourse steps grid names start n → CanRun (suc (steps - suc n)) grid names (state n)
+  pub can_more : (n : ℕ) → n < steps → IsOnCourse steps grid names start n → CanRun (suc (steps - suc n)) grid names (state n)
   can_more n l was = subst (λ (k : ℕ). CanRun k grid names (state n)) (let e : steps - n ≡ suc (steps - suc n) = omega arith in e) was.can
+
+  next_within : (n : ℕ) → n < steps → IsOnCourse steps grid names start n → (q : Quantity)
+      → budget_of (steps - suc n) grid names (state_after (suc n) grid names start) q ≤ℤ budget_of steps grid names start q
+  next_within n l was q =
+      let less = budget_less (steps - suc n) grid names (state n) ground (can_more n l was) q in
+      let same = ap (λ (k : ℕ). budget_of k grid names (state n) q) (let e : suc (steps - suc n) ≡ steps - n = omega arith in e) in
+      let own = was.within q in
+      omega (arith, ints, less, same, own)
 
   next_state : (n : ℕ) → n < steps → IsOnCourse steps grid names start n → IsOnCourse steps grid names start (suc n)
   next_state n l was =
@@ -143,6 +165,7 @@ module _ (steps : ℕ) (grid : Grid) (names : Names) (start : Whole) (ground : I
         heat = omega (arith, ints, kept.heat, was.heat);
         water = kept.water ∙ was.water;
         salt = kept.salt ∙ was.salt;
+        within = next_within n l was;
       }
 
   pub on_course : (n : ℕ) → n ≤ steps → IsOnCourse steps grid names start n
@@ -154,6 +177,7 @@ module _ (steps : ℕ) (grid : Grid) (names : Names) (start : Whole) (ground : I
         heat = omega (arith, ints);
         water = refl;
         salt = refl;
+        within = λ q. (let same = ap (λ (k : ℕ). budget_of k grid names start q) (let e : steps - 0 ≡ steps = omega arith in e) in omega (arith, ints, same));
       }
   on_course (suc n) l = next_state n l (on_course n (omega arith))
 

@@ -15,14 +15,14 @@ use Rattle.cpl_xgrid.specs.declared.grid.Grid.{Grid}
 use Rattle.cpl_ice.specs.Cells.{IsFlight}
 use Rattle.cpl_ice.specs.declared.parts.ToIce.{ToIce}
 use Rattle.cpl_transport.proofs.Frazil.{cut_flight}
-use Rattle.cpl_restart.specs.declared.whole.Whole.{Whole}
-use Rattle.cpl_restart.specs.Numbers.{IsStored}
-use Rattle.cpl_restart.specs.States.{ocean_cells, layers, of_cell, IsWhole, IsDry}
-use Rattle.cpl_restart.specs.FastStep.{for_each}
-use Rattle.cpl_restart.specs.Stocks.{held, stocks_of, flying_to_ocean, whole_flight, quantity_of}
-use Rattle.cpl_restart.specs.Transport.{Sea, cell_in}
-use Rattle.cpl_restart.specs.Cut.{cut_at, cut_off, after_cut, to_ice_numbers}
-use Rattle.cpl_restart.specs.CouplingStep.{sea_of}
+use Rattle.cpl_state.specs.declared.whole.Whole.{Whole}
+use Rattle.cpl_state.specs.Stored.{IsStored}
+use Rattle.cpl_state.specs.States.{ocean_cells, layers, of_cell, IsWhole, IsDry}
+use Rattle.cpl_state.specs.FastStep.{for_each}
+use Rattle.cpl_state.specs.Stocks.{held, stocks_of, flying_to_ocean, whole_flight, quantity_of}
+use Rattle.cpl_state.specs.Transport.{Sea, cell_in}
+use Rattle.cpl_state.specs.Cut.{cut_at, cut_off, after_cut, to_ice_numbers}
+use Rattle.cpl_state.specs.CouplingStep.{sea_of}
 use Rattle.cpl_diffusion.proofs.Sums.{sum_to-same, total_range}
 use Rattle.cpl_laws.proofs.Flows.{stored_natural}
 use Rattle.cpl_laws.proofs.FastRanges.{stored_total}
@@ -58,7 +58,7 @@ module _ (grid : Grid) (names : Names) (whole : Whole) (ground : IsGround grid) 
   some_layer = ground.numbered.rules.column.layers.0
 
   -- the ocean with what flies to it is within what the state holds
-  sea_held : (q : Quantity) → (total_in q (sea_of whole) +ℤ flying_to_ocean grid whole q) ≤ℤ held grid whole q
+  pub sea_held : (q : Quantity) → (total_in q (sea_of whole) +ℤ flying_to_ocean grid whole q) ≤ℤ held grid whole q
   unfolding stocks_of
   sea_held Heat =
       let a = stored_total whole.air_heat lawful.stored.air_heat in
@@ -87,7 +87,7 @@ module _ (grid : Grid) (names : Names) (whole : Whole) (ground : IsGround grid) 
 
   -- WITH THE FLIGHT
 
-  flown_total : (q : Quantity) → total_in q (sea_at grid names whole 0) ≡ total_in q (sea_of whole) +ℤ flying_to_ocean grid whole q
+  pub flown_total : (q : Quantity) → total_in q (sea_at grid names whole 0) ≡ total_in q (sea_of whole) +ℤ flying_to_ocean grid whole q
   flown_total Heat =
       let a = flown_heat grid.ocean (layers grid) (sea_of whole) some_layer start_is whole.to_ocean in
       let b = total_range (λ n. of_cell 3 n 1 whole.to_ocean) C in
@@ -116,7 +116,7 @@ module _ (grid : Grid) (names : Names) (whole : Whole) (ground : IsGround grid) 
   sea_steps zero = flown_is
   sea_steps (suc i) = stepped_is grid.ocean (layers grid) names.rates (sea_at grid names whole i) ground.ocean (sea_steps i) are.rates.mix.0
 
-  sea_total : (i : ℕ) (q : Quantity) → total_in q (sea_at grid names whole i) ≡ total_in q (sea_at grid names whole 0)
+  pub sea_total : (i : ℕ) (q : Quantity) → total_in q (sea_at grid names whole i) ≡ total_in q (sea_at grid names whole 0)
   sea_total zero q = refl
   sea_total (suc i) Heat = heat_total grid.ocean (layers grid) names.rates (sea_at grid names whole i) ground.ocean (sea_steps i) are.rates.mix.0 ∙ sea_total i Heat
   sea_total (suc i) Water = water_total grid.ocean (layers grid) names.rates (sea_at grid names whole i) ground.ocean (sea_steps i) are.rates.mix.0 ∙ sea_total i Water

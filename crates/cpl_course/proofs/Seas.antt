@@ -9,12 +9,12 @@ use Rattle.cpl_fixed.specs.declared.limits.TheConstants.{MOST_TOTAL}
 use Rattle.cpl_xgrid.specs.declared.grid.Grid.{Grid}
 use Rattle.cpl_faces.specs.declared.face.Face.{Face}
 use Rattle.cpl_faces.specs.Faces.{faces_of}
-use Rattle.cpl_restart.specs.declared.whole.Whole.{Whole}
-use Rattle.cpl_restart.specs.Numbers.{IsStored}
-use Rattle.cpl_restart.specs.Diffusion.{AreAmounts, cell_count}
-use Rattle.cpl_restart.specs.States.{ocean_cells, layers, in_layer, IsWhole, IsDry, IsDryFace, IsFaceNumber}
-use Rattle.cpl_restart.specs.Transport.{Sea, face_at, face_count, is_open, is_wet}
-use Rattle.cpl_restart.specs.CouplingStep.{sea_of}
+use Rattle.cpl_state.specs.declared.whole.Whole.{Whole}
+use Rattle.cpl_state.specs.Stored.{IsStored}
+use Rattle.cpl_state.specs.Diffusion.{AreAmounts, cell_count}
+use Rattle.cpl_state.specs.States.{ocean_cells, layers, in_layer, IsWhole, IsDry, IsDryFace, IsFaceNumber}
+use Rattle.cpl_state.specs.Transport.{Sea, face_at, face_count, is_open, is_wet}
+use Rattle.cpl_state.specs.CouplingStep.{sea_of}
 use Rattle.cpl_sea.specs.Seas.{IsOcean, IsSea}
 use Rattle.cpl_diffusion.proofs.Conserved.{amount_at}
 use Rattle.cpl_laws.proofs.Held.{stored}

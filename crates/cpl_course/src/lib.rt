@@ -3,4 +3,4 @@
 
 mod laws;
 
-pub use laws::{coupling_law, course_law, restart_law};
+pub use laws::{coupling_law, course_law, restart_law, totals_law};

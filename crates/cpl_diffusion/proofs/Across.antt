@@ -15,7 +15,7 @@ use Rattle.cpl_mosaic.specs.Contacts.{cells_of}
 use Rattle.cpl_mosaic.specs.Sides.{CellSide}
 use Rattle.cpl_mosaic.specs.Mates.{mate_of, MatesAgree}
 use Rattle.cpl_mosaic.specs.Cells.{number_of, cell_of, NumbersAgree}
-use Rattle.cpl_restart.specs.Diffusion.{flow_to, flow_through, loss, diffused, at, cell_count, AreAmounts, IsAirMesh}
+use Rattle.cpl_state.specs.Diffusion.{flow_to, flow_through, loss, diffused, at, cell_count, AreAmounts, IsAirMesh}
 use Rattle.cpl_diffusion.specs.declared.faces.Faces.{Faces}
 use Rattle.cpl_diffusion.specs.Across.{number_or, across_of, face_along, faces_to, faces_at, next_at, no_faces, previous_by, AreFacesAlong}
 use Rattle.cpl_diffusion.specs.Steps.{AreFaces, between, previous_at, flow_next, flow_previous, left_in}

@@ -5,7 +5,7 @@ use Rattle.std.proofs.lemmas.Int.{ints}
 use Rattle.std.proofs.lemmas.List.Elements.{All-get_or}
 use Rattle.cpl_fixed.specs.Flows.{IsAirAmount, IsAirArea, flow}
 use Rattle.cpl_fixed.proofs.Flows.{flow_most, flow_least, flow_turned}
-use Rattle.cpl_restart.specs.Diffusion.{AreAmounts, at}
+use Rattle.cpl_state.specs.Diffusion.{AreAmounts, at}
 use Rattle.cpl_diffusion.specs.Steps.{IsSmall, between}
 use Rattle.cpl_diffusion.proofs.Conserved.{amount_at}
 

@@ -13,7 +13,7 @@ use Rattle.cpl_mosaic.specs.declared.mosaic.Mesh.{Mesh}
 use Rattle.cpl_mosaic.specs.Sides.{CellSide}
 use Rattle.cpl_mosaic.specs.Mates.{mate_of, MatesAgree}
 use Rattle.cpl_mosaic.specs.Cells.{number_of, cell_of, NumbersAgree}
-use Rattle.cpl_restart.specs.Diffusion.{flow, flow_to, flow_through, cell_number, loss, at, cell_count, diffused, total_of, IsAirArea, IsAirMesh, AreAmounts}
+use Rattle.cpl_state.specs.Diffusion.{flow, flow_to, flow_through, cell_number, loss, at, cell_count, diffused, total_of, IsAirArea, IsAirMesh, AreAmounts}
 use Rattle.cpl_fixed.specs.Flows.{IsAirAmount}
 use Rattle.cpl_fixed.proofs.Flows.{flow_most, flow_turned}
 use Rattle.cpl_diffusion.proofs.Sums.{sum_to, sum_to-same, sum_to-sub, total_of-sum_to, sum_to-above}

@@ -5,7 +5,7 @@ use Rattle.std.specs.List.{range_with_len}
 use Rattle.std.proofs.lemmas.Int.{ints}
 use Rattle.std.proofs.lemmas.List.FromFn.{length-map-range_with_len, get_or-map-range_with_len}
 use Rattle.std.proofs.lemmas.Bool.{cases_eq}
-use Rattle.cpl_restart.specs.Diffusion.{at, total_of}
+use Rattle.cpl_state.specs.Diffusion.{at, total_of}
 
 -- f 0 + .. + f (n - 1)
 abbrev pub sum_to : (ℕ → ℤ) → ℕ → ℤ

@@ -9,7 +9,7 @@ use Rattle.cpl_mosaic.specs.Sides.{CellSide}
 use Rattle.cpl_mosaic.specs.Mates.{mate_of, MatesAgree}
 use Rattle.cpl_mosaic.specs.Cells.{number_of, cell_of, NumbersAgree}
 use Rattle.cpl_mosaic.specs.declared.mosaic.Mesh.{Mesh}
-use Rattle.cpl_restart.specs.Diffusion.{IsAirMesh, at, cell_count}
+use Rattle.cpl_state.specs.Diffusion.{IsAirMesh, at, cell_count}
 use Rattle.cpl_diffusion.specs.declared.faces.Faces.{Faces}
 
 -- the number of the cell that has this side, or else n

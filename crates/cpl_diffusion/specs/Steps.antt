@@ -1,7 +1,7 @@
 -- A step over faces.
 use Rattle.std.specs.Prelude.{◌≡◌, ◌<◌, ◌≤◌, ◌-◌, nat_lt, if◌then◌else◌, ◌^◌, ℕ, ℤ, pos, ◌+ℤ◌, ◌-ℤ◌, ◌<ℤ◌, List, length, All}
 use Rattle.cpl_fixed.specs.Flows.{IsAirArea, face_divisor, flow}
-use Rattle.cpl_restart.specs.Diffusion.{at}
+use Rattle.cpl_state.specs.Diffusion.{at}
 use Rattle.cpl_mosaic.specs.declared.parts.Side.TheVariants.{W, E, S, N}
 use Rattle.cpl_mosaic.specs.declared.mosaic.Mesh.{Mesh}
 use Rattle.cpl_diffusion.specs.Across.{AreFacesAlong, faces_at, next_at}

@@ -4,7 +4,7 @@ ghost use Rattle.cpl_fixed.specs.Flows.{face_divisor};
 ghost use Rattle.cpl_mosaic.specs.Contacts.{cells_of};
 ghost use Rattle.cpl_mosaic.specs.Mates.{MatesAgree};
 ghost use Rattle.cpl_mosaic.specs.Cells.{NumbersAgree};
-ghost use Rattle.cpl_restart.specs.Diffusion.{IsAirMesh, cell_count};
+ghost use Rattle.cpl_state.specs.Diffusion.{IsAirMesh, cell_count};
 ghost use Rattle.cpl_diffusion.specs.Across.{AreFacesAlong, across_of, face_along, faces_to, next_at, previous_by};
 
 use cpl_fixed::FaceDivisor;

@@ -1,6 +1,6 @@
 // A step of the diffusion.
 ghost use Rattle.std.specs.Prelude.{ℕ, ◌≡◌, ◌<◌, length, IfOk};
-ghost use Rattle.cpl_restart.specs.Diffusion.{AreAmounts, IsAirMesh, at, cell_count, diffused, total_of};
+ghost use Rattle.cpl_state.specs.Diffusion.{AreAmounts, IsAirMesh, at, cell_count, diffused, total_of};
 ghost use Rattle.cpl_diffusion.specs.Steps.{AreFaces, AreWays, IsRoom, IsSmall, flow_next, flow_previous, left_in};
 
 use crate::faces::{Faces, all_faces};

@@ -19,7 +19,7 @@ use Rattle.cpl_strip.specs.Strips.{AreStrips, IsLink, Link, StandsAt, strip_at, 
 use Rattle.cpl_field.specs.Spots.{FieldNumbers, CellAt, HoleAt, IsSpot, number_at}
 use Rattle.cpl_group.specs.Parts.{target}
 use Rattle.cpl_divided.specs.Fields.{field_at, IsLinked, AreJoined, Carries}
-use Rattle.cpl_restart.specs.Diffusion.{at}
+use Rattle.cpl_state.specs.Diffusion.{at}
 use Rattle.cpl_divided.specs.Whole.{IsFieldOf, AreFields, HoldWhole, HasHoles, hole_beside, beyond}
 
 pub hole_spot : (piece : Piece) (f : FieldNumbers) → IsFieldOf piece f → (side : Side) (k d : ℕ) → k < edge_of piece side → 1 ≤ d → d ≤ 1 → IsSpot f (HoleAt side k d)

@@ -16,7 +16,7 @@ use Rattle.cpl_strip.specs.Holes.{edge_of, side_at}
 use Rattle.cpl_field.specs.Spots.{FieldNumbers, Spot, CellAt, HoleAt, IsSpot, number_at}
 use Rattle.cpl_atmos.specs.Sweeps.{flow_beside, flow_out, next_at, AreAirAreas, AreAmounts}
 use Rattle.cpl_atmos.proofs.Stored.{beside_some}
-use Rattle.cpl_restart.specs.Diffusion.{IsAirMesh, AreAmounts as AreTotalled, at, cell_count, diffused, flow_to, flow_through}
+use Rattle.cpl_state.specs.Diffusion.{IsAirMesh, AreAmounts as AreTotalled, at, cell_count, diffused, flow_to, flow_through}
 use Rattle.cpl_diffusion.proofs.Conserved.{area_at, amount_at, diffused_at}
 use Rattle.cpl_divided.specs.Whole.{IsFieldOf, HasCells, HasHoles, beyond, hole_beside}
 use Rattle.cpl_divided.proofs.Around.{out_is}

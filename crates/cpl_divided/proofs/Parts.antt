@@ -23,7 +23,7 @@ use Rattle.cpl_strip.specs.Strips.{AreStrips, StandsAt, strip_at, link_at}
 use Rattle.cpl_field.specs.Spots.{FieldNumbers, CellAt, HoleAt, IsSpot, IsSameShape, SetsRow, number_at}
 use Rattle.cpl_group.specs.Parts.{IsStrip, size_of}
 use Rattle.cpl_atmos.specs.Sweeps.{AirNumbers}
-use Rattle.cpl_restart.specs.Diffusion.{at}
+use Rattle.cpl_state.specs.Diffusion.{at}
 use Rattle.cpl_divided.specs.Buffers.{AreEnds, AreBuffers}
 use Rattle.cpl_divided.specs.Whole.{IsFieldOf, HasCells, HasEmpty, HasHoles, HoldWhole, HaveAreas, Gathers, number_in}
 use Rattle.cpl_divided.proofs.Built.{IsBuilt}

@@ -11,7 +11,7 @@ use Rattle.cpl_strip.specs.declared.parts.Strip.{Strip}
 use Rattle.cpl_strip.specs.Strips.{AreStrips}
 use Rattle.cpl_field.specs.Spots.{FieldNumbers}
 use Rattle.cpl_atmos.specs.Sweeps.{AirNumbers}
-use Rattle.cpl_restart.specs.Diffusion.{IsAirMesh, AreAmounts, cell_count, diffused, diffused_by, total_of}
+use Rattle.cpl_state.specs.Diffusion.{IsAirMesh, AreAmounts, cell_count, diffused, diffused_by, total_of}
 use Rattle.cpl_diffusion.proofs.Conserved.{diffused_are, diffused_total}
 use Rattle.cpl_divided.specs.Fields.{field_at, Carries}
 use Rattle.cpl_divided.specs.Steps.{ArePieces, HaveAmounts, StepsAll, KeepsAreas, area_of}

@@ -16,7 +16,7 @@ use Rattle.cpl_strip.specs.declared.parts.Hole.{Hole}
 use Rattle.cpl_strip.specs.Holes.{edge_of, walk_to}
 use Rattle.cpl_field.specs.Spots.{FieldNumbers, CellAt, HoleAt, number_at}
 use Rattle.cpl_atmos.specs.Sweeps.{AirNumbers}
-use Rattle.cpl_restart.specs.Diffusion.{at}
+use Rattle.cpl_state.specs.Diffusion.{at}
 use Rattle.cpl_divided.specs.Fields.{field_at}
 use Rattle.cpl_divided.specs.Steps.{area_of}
 

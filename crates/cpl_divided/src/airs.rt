@@ -2,7 +2,7 @@
 ghost use Rattle.std.specs.Prelude.{◌≡◌, ◌<◌, ℕ, IfOk};
 ghost use Rattle.cpl_layout.specs.Pieces.{pieces_of, piece_of};
 ghost use Rattle.cpl_strip.specs.Strips.{AreStrips};
-ghost use Rattle.cpl_restart.specs.Diffusion.{IsAirMesh};
+ghost use Rattle.cpl_state.specs.Diffusion.{IsAirMesh};
 ghost use Rattle.cpl_divided.specs.Fields.{field_at};
 ghost use Rattle.cpl_divided.specs.Whole.{AreFields, HasCells, HasHoles, HaveAreas};
 

@@ -1,6 +1,6 @@
 // The air alone, in pieces.
 ghost use Rattle.std.specs.Prelude.{◌≡◌, IfOk};
-ghost use Rattle.cpl_restart.specs.Diffusion.{IsAirMesh, AreAmounts, cell_count, air_after, total_of};
+ghost use Rattle.cpl_state.specs.Diffusion.{IsAirMesh, AreAmounts, cell_count, air_after, total_of};
 
 use crate::airs::air_pieces;
 use crate::halos::Halos;
@@ -9,7 +9,7 @@ use crate::sweep::step_all;
 use cpl_fixed::List;
 use cpl_layout::Layout;
 use cpl_mosaic::Mesh;
-use cpl_restart::Air;
+use cpl_state::Air;
 use std::alloc::{AllocError, Global};
 
 /// Runs the air alone for `n` steps, in the pieces of a layout of the mesh's mosaic. The air after them is that of the

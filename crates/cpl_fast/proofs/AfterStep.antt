@@ -10,12 +10,12 @@ use Rattle.cpl_xgrid.specs.declared.grid.Grid.{Grid}
 use Rattle.cpl_xgrid.specs.declared.parts.XRef.{XRef}
 use Rattle.cpl_xgrid.specs.declared.parts.Surface.{Surface}
 use Rattle.cpl_xgrid.specs.declared.parts.Surface.TheVariants.{Land, Ocean}
-use Rattle.cpl_restart.specs.declared.whole.Whole.{Whole}
-use Rattle.cpl_restart.specs.declared.whole.Mid.{Mid}
-use Rattle.cpl_restart.specs.States.{air_cells, all_of_cell, land_cells, ocean_cells, part_count}
-use Rattle.cpl_restart.specs.Elements.{air_number, area_before, areas_in, areas_on, part_area, refs_of_surface_cell, row_at, rows_before, share_at, surface_number}
-use Rattle.cpl_restart.specs.FastStep.{Before, absorbed, albedo, category_heat_after, fast_after, for_each, for_each_category, land_after, skin_after, sun_on}
-use Rattle.cpl_restart.specs.FastLaws.{CanStep}
+use Rattle.cpl_state.specs.declared.whole.Whole.{Whole}
+use Rattle.cpl_state.specs.declared.whole.Mid.{Mid}
+use Rattle.cpl_state.specs.States.{air_cells, all_of_cell, land_cells, ocean_cells, part_count}
+use Rattle.cpl_state.specs.Elements.{air_number, area_before, areas_in, areas_on, part_area, refs_of_surface_cell, row_at, rows_before, share_at, surface_number}
+use Rattle.cpl_state.specs.FastStep.{Before, absorbed, albedo, category_heat_after, fast_after, for_each, for_each_category, land_after, skin_after, sun_on}
+use Rattle.cpl_state.specs.FastLaws.{CanStep}
 use Rattle.cpl_laws.specs.Once.{IsNumbered}
 use Rattle.cpl_laws.proofs.FastKept.{keeps_all}
 use Rattle.cpl_fast.specs.declared.flows.Flow.{Flow}

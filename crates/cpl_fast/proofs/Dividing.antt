@@ -16,9 +16,9 @@ use Rattle.cpl_xgrid.specs.declared.parts.Surface.{Surface}
 use Rattle.cpl_xgrid.specs.declared.parts.Surface.TheVariants.{Land, Ocean}
 use Rattle.cpl_xgrid.specs.Lists.{IsArea, XGridLists}
 use Rattle.cpl_xgrid.specs.Rows.{rows_of}
-use Rattle.cpl_restart.specs.declared.whole.Whole.{Whole}
-use Rattle.cpl_restart.specs.States.{land_cells, ocean_cells, part_count, IsWhole}
-use Rattle.cpl_restart.specs.Elements.{tiles_of, element_count}
+use Rattle.cpl_state.specs.declared.whole.Whole.{Whole}
+use Rattle.cpl_state.specs.States.{land_cells, ocean_cells, part_count, IsWhole}
+use Rattle.cpl_state.specs.Elements.{tiles_of, element_count}
 use Rattle.cpl_laws.specs.Once.{IsNumbered}
 use Rattle.cpl_laws.proofs.Areas.{element_natural}
 use Rattle.cpl_fast.specs.declared.flows.Link.{Link}

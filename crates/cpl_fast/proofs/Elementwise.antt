@@ -9,9 +9,9 @@ use Rattle.cpl_xgrid.specs.Rows.{refs_of_air, refs_of_other, rows_of}
 use Rattle.cpl_xgrid.specs.declared.parts.XRef.{XRef}
 use Rattle.cpl_xgrid.specs.declared.parts.Surface.{Surface}
 use Rattle.cpl_xgrid.specs.declared.parts.Surface.TheVariants.{Land, Ocean}
-use Rattle.cpl_restart.specs.States.{air_cells}
-use Rattle.cpl_restart.specs.Elements.{tiles_of, element_count, over_all, over_elements, over_part, refs_of_air_cell, refs_of_surface_cell}
-use Rattle.cpl_restart.specs.FastStep.{Before}
+use Rattle.cpl_state.specs.States.{air_cells}
+use Rattle.cpl_state.specs.Elements.{tiles_of, element_count, over_all, over_elements, over_part, refs_of_air_cell, refs_of_surface_cell}
+use Rattle.cpl_state.specs.FastStep.{Before}
 use Rattle.cpl_laws.specs.Once.{IsNumbered}
 use Rattle.cpl_laws.proofs.Elements.{each_of_air, each_of_surface}
 use Rattle.cpl_laws.proofs.FastSums.{over_rows}

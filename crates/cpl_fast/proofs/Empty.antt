@@ -11,9 +11,9 @@ use Rattle.cpl_xgrid.specs.declared.parts.XRef.{XRef}
 use Rattle.cpl_xgrid.specs.Rows.{rows_of}
 use Rattle.cpl_xgrid.specs.declared.parts.Surface.{Surface}
 use Rattle.cpl_xgrid.specs.declared.parts.Surface.TheVariants.{Ocean}
-use Rattle.cpl_restart.specs.States.{air_side, ocean_cells, part_count}
-use Rattle.cpl_restart.specs.Elements.{air_number, area_before, element_area, element_count, part_area, refs_of_surface_cell, share_at, surface_number}
-use Rattle.cpl_restart.specs.FastStep.{Before, absorbed, albedo, flux, rain, rain_on, sun_on, surface_part}
+use Rattle.cpl_state.specs.States.{air_side, ocean_cells, part_count}
+use Rattle.cpl_state.specs.Elements.{air_number, area_before, element_area, element_count, part_area, refs_of_surface_cell, share_at, surface_number}
+use Rattle.cpl_state.specs.FastStep.{Before, absorbed, albedo, flux, rain, rain_on, sun_on, surface_part}
 use Rattle.cpl_laws.proofs.Elements.{each_of_surface}
 use Rattle.cpl_laws.proofs.Groups.{total_none}
 use Rattle.cpl_fast.specs.declared.flows.Flow.{Flow}

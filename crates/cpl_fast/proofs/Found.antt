@@ -8,10 +8,10 @@ use Rattle.cpl_fixed.proofs.ShareLaws.{total_more}
 use Rattle.cpl_flux.specs.Temperatures.{weather}
 use Rattle.cpl_xgrid.specs.declared.parts.Surface.{Surface}
 use Rattle.cpl_xgrid.specs.Rows.{rows_of}
-use Rattle.cpl_restart.specs.States.{air_side}
-use Rattle.cpl_restart.specs.Elements.{air_number, surface_number, element_count, element_area, areas_in, area_before}
-use Rattle.cpl_restart.specs.FastStep.{Before, flux, heat_down, water_up, absorbed, surface_part}
-use Rattle.cpl_restart.specs.FastLaws.{CanStep}
+use Rattle.cpl_state.specs.States.{air_side}
+use Rattle.cpl_state.specs.Elements.{air_number, surface_number, element_count, element_area, areas_in, area_before}
+use Rattle.cpl_state.specs.FastStep.{Before, flux, heat_down, water_up, absorbed, surface_part}
+use Rattle.cpl_state.specs.FastLaws.{CanStep}
 use Rattle.cpl_diffusion.proofs.Sums.{sum_to, total_range}
 use Rattle.cpl_laws.specs.Once.{IsNumbered}
 use Rattle.cpl_laws.proofs.Elements.{air_below, surface_below}

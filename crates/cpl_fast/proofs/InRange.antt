@@ -10,11 +10,11 @@ use Rattle.cpl_mosaic.specs.Mates.{MatesAgree}
 use Rattle.cpl_xgrid.specs.declared.grid.Grid.{Grid}
 use Rattle.cpl_xgrid.specs.declared.parts.Surface.{Surface}
 use Rattle.cpl_xgrid.specs.declared.parts.Surface.TheVariants.{Land, Ocean}
-use Rattle.cpl_restart.specs.Diffusion.{IsAirMesh}
-use Rattle.cpl_restart.specs.States.{air_cells, air_side, categories}
-use Rattle.cpl_restart.specs.Elements.{tiles_of, element_count, part_area}
-use Rattle.cpl_restart.specs.FastStep.{Before, surface_part}
-use Rattle.cpl_restart.specs.FastLaws.{CanStep}
+use Rattle.cpl_state.specs.Diffusion.{IsAirMesh}
+use Rattle.cpl_state.specs.States.{air_cells, air_side, categories}
+use Rattle.cpl_state.specs.Elements.{tiles_of, element_count, part_area}
+use Rattle.cpl_state.specs.FastStep.{Before, surface_part}
+use Rattle.cpl_state.specs.FastLaws.{CanStep}
 use Rattle.cpl_laws.specs.Once.{IsNumbered}
 use Rattle.cpl_laws.proofs.Areas.{part_natural, part_most}
 use Rattle.cpl_laws.proofs.FastRanges.{sun_strength_natural}

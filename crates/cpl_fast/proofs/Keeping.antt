@@ -5,8 +5,8 @@ use Rattle.cpl_xgrid.specs.Rows.{rows_of}
 use Rattle.cpl_xgrid.specs.declared.parts.XRef.{XRef}
 use Rattle.cpl_xgrid.specs.declared.parts.Surface.{Surface}
 use Rattle.cpl_xgrid.specs.declared.parts.Surface.TheVariants.{Land, Ocean}
-use Rattle.cpl_restart.specs.Elements.{element_area, element_count}
-use Rattle.cpl_restart.specs.FastStep.{Before}
+use Rattle.cpl_state.specs.Elements.{element_area, element_count}
+use Rattle.cpl_state.specs.FastStep.{Before}
 use Rattle.cpl_fast.specs.declared.flows.Flow.{Flow}
 use Rattle.cpl_fast.specs.declared.room.FastRoom.{FastRoom}
 use Rattle.cpl_fast.specs.Rooms.{HasAreas, HaveSuns, IsDivided, IsFastRoom}

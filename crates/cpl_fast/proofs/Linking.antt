@@ -12,8 +12,8 @@ use Rattle.cpl_xgrid.specs.declared.grid.Grid.{Grid}
 use Rattle.cpl_xgrid.specs.declared.parts.XRow.{XRow}
 use Rattle.cpl_xgrid.specs.declared.parts.Surface.TheVariants.{Land, Ocean}
 use Rattle.cpl_xgrid.specs.Rows.{air_cell, area_of}
-use Rattle.cpl_restart.specs.States.{air_cells}
-use Rattle.cpl_restart.specs.Elements.{air_number, surface_number}
+use Rattle.cpl_state.specs.States.{air_cells}
+use Rattle.cpl_state.specs.Elements.{air_number, surface_number}
 use Rattle.cpl_laws.specs.Once.{IsNumbered}
 use Rattle.cpl_laws.proofs.Rows.{air_cells_are, other_cells_are}
 use Rattle.cpl_laws.proofs.Elements.{air_area, air_below, air_found}

@@ -8,10 +8,10 @@ use Rattle.cpl_mosaic.specs.Contacts.{cells_of}
 use Rattle.cpl_mosaic.specs.Mates.{MatesAgree}
 use Rattle.cpl_xgrid.specs.declared.parts.Surface.{Surface}
 use Rattle.cpl_xgrid.specs.declared.parts.Surface.TheVariants.{Land, Ocean}
-use Rattle.cpl_restart.specs.States.{air_cells, air_side, categories, of_cell}
-use Rattle.cpl_restart.specs.Elements.{element_count, part_area, tiles_of}
-use Rattle.cpl_restart.specs.FastStep.{Before, surface_part}
-use Rattle.cpl_restart.specs.FastLaws.{CanStep}
+use Rattle.cpl_state.specs.States.{air_cells, air_side, categories, of_cell}
+use Rattle.cpl_state.specs.Elements.{element_count, part_area, tiles_of}
+use Rattle.cpl_state.specs.FastStep.{Before, surface_part}
+use Rattle.cpl_state.specs.FastLaws.{CanStep}
 use Rattle.cpl_laws.specs.Once.{IsNumbered}
 use Rattle.cpl_fast.specs.declared.flows.Sky.{Sky}
 use Rattle.cpl_fast.specs.declared.flows.Tables.{Tables}

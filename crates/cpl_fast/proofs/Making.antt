@@ -20,10 +20,10 @@ use Rattle.cpl_xgrid.specs.declared.parts.Surface.{Surface}
 use Rattle.cpl_xgrid.specs.declared.parts.Surface.TheVariants.{Land, Ocean}
 use Rattle.cpl_xgrid.specs.Rows.{refs_of_other, rows_of}
 use Rattle.cpl_mosaic.specs.Cells.{cell_of}
-use Rattle.cpl_restart.specs.declared.whole.Whole.{Whole}
-use Rattle.cpl_restart.specs.States.{air_cells, all_of_cell, of_cell, ocean_cells, part_count, IsWhole}
-use Rattle.cpl_restart.specs.Elements.{tiles_of, surface_number, element_count, element_area, areas_in, part_area, refs_of_surface_cell}
-use Rattle.cpl_restart.specs.FastStep.{Before}
+use Rattle.cpl_state.specs.declared.whole.Whole.{Whole}
+use Rattle.cpl_state.specs.States.{air_cells, all_of_cell, of_cell, ocean_cells, part_count, IsWhole}
+use Rattle.cpl_state.specs.Elements.{tiles_of, surface_number, element_count, element_area, areas_in, part_area, refs_of_surface_cell}
+use Rattle.cpl_state.specs.FastStep.{Before}
 use Rattle.cpl_laws.specs.Once.{IsNumbered}
 use Rattle.cpl_laws.specs.Cells.{mesh_of}
 use Rattle.cpl_laws.proofs.Groups.{total_same}

@@ -10,7 +10,7 @@ use Rattle.cpl_flux.proofs.Nothing.{no_element}
 use Rattle.cpl_fast.specs.declared.flows.Sky.{Sky}
 use Rattle.cpl_fast.specs.Flows.{area_in, before_in, flow_again, flow_at, flow_in, flow_through, no_flow, part_of_row}
 use Rattle.cpl_xgrid.specs.declared.parts.Surface.{Surface}
-use Rattle.cpl_restart.specs.FastStep.{albedo}
+use Rattle.cpl_state.specs.FastStep.{albedo}
 use Rattle.cpl_fast.specs.Places.{place_in}
 use Rattle.cpl_fast.specs.Rain.{rained_on}
 use Rattle.cpl_fast.specs.Suns.{only_sun, sun_in}

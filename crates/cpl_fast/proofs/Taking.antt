@@ -4,9 +4,9 @@ use Rattle.std.specs.Prelude.{ℤ}
 use Rattle.cpl_fixed.specs.Amounts.{at}
 use Rattle.cpl_mosaic.specs.Contacts.{cells_of}
 use Rattle.cpl_xgrid.specs.declared.parts.Surface.TheVariants.{Land, Ocean}
-use Rattle.cpl_restart.specs.declared.whole.Mid.{Mid}
-use Rattle.cpl_restart.specs.States.{categories, land_cells, ocean_cells, part_count}
-use Rattle.cpl_restart.specs.FastStep.{Before, rain_on}
+use Rattle.cpl_state.specs.declared.whole.Mid.{Mid}
+use Rattle.cpl_state.specs.States.{categories, land_cells, ocean_cells, part_count}
+use Rattle.cpl_state.specs.FastStep.{Before, rain_on}
 use Rattle.cpl_fast.specs.declared.flows.Flow.{Flow}
 use Rattle.cpl_fast.specs.declared.room.FastRoom.{FastRoom}
 use Rattle.cpl_fast.specs.Places.{AreEnds, place_in}

@@ -13,9 +13,9 @@ use Rattle.cpl_xgrid.specs.declared.parts.XRef.{XRef}
 use Rattle.cpl_xgrid.specs.declared.parts.Surface.{Surface}
 use Rattle.cpl_xgrid.specs.declared.parts.Surface.TheVariants.{Land, Ocean}
 use Rattle.cpl_xgrid.proofs.Sums.{air_refs_are}
-use Rattle.cpl_restart.specs.States.{air_cells, air_side}
-use Rattle.cpl_restart.specs.Elements.{over_all, refs_of_air_cell}
-use Rattle.cpl_restart.specs.FastStep.{Before, heat_down, water_up, absorbed, to_space, heat_before_rain, vapour_before_rain, heat_after_rain, vapour_after_rain, rain, left, for_each}
+use Rattle.cpl_state.specs.States.{air_cells, air_side}
+use Rattle.cpl_state.specs.Elements.{over_all, refs_of_air_cell}
+use Rattle.cpl_state.specs.FastStep.{Before, heat_down, water_up, absorbed, to_space, heat_before_rain, vapour_before_rain, heat_after_rain, vapour_after_rain, rain, left, for_each}
 use Rattle.cpl_laws.proofs.Elements.{each_of_air}
 use Rattle.cpl_laws.proofs.Sums.{cells_same}
 use Rattle.cpl_fast.specs.declared.air.Rained.{Rained}

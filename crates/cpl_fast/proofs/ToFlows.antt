@@ -17,10 +17,10 @@ use Rattle.cpl_xgrid.specs.Rows.{refs_to, rows_of}
 use Rattle.cpl_xgrid.specs.declared.parts.XRef.{XRef}
 use Rattle.cpl_xgrid.specs.declared.parts.Surface.{Surface}
 use Rattle.cpl_xgrid.specs.declared.parts.Surface.TheVariants.{Land, Ocean}
-use Rattle.cpl_restart.specs.States.{air_cells, air_side}
-use Rattle.cpl_restart.specs.Elements.{air_number, area_before, element_area, element_count, over_all, over_elements, surface_number, share_at}
-use Rattle.cpl_restart.specs.FastStep.{Before, absorbed, entered, heat_down, heat_given, rain, rain_on, surface_part, water_given, water_up, for_each}
-use Rattle.cpl_restart.specs.FastLaws.{IsPlaced}
+use Rattle.cpl_state.specs.States.{air_cells, air_side}
+use Rattle.cpl_state.specs.Elements.{air_number, area_before, element_area, element_count, over_all, over_elements, surface_number, share_at}
+use Rattle.cpl_state.specs.FastStep.{Before, absorbed, entered, heat_down, heat_given, rain, rain_on, surface_part, water_given, water_up, for_each}
+use Rattle.cpl_state.specs.FastLaws.{IsPlaced}
 use Rattle.cpl_laws.proofs.Elements.{air_below, surface_below}
 use Rattle.cpl_laws.proofs.FastSums.{air_sum, all_water_with, all_with, given_heat, given_water, heat_with, over_rows, water_with}
 use Rattle.cpl_laws.proofs.Held.{read_cell}

@@ -12,10 +12,10 @@ use Rattle.cpl_fixed.specs.declared.rates.Rates.{Rates}
 use Rattle.cpl_xgrid.specs.Rows.{rows_of}
 use Rattle.cpl_xgrid.specs.declared.parts.XRef.{XRef}
 use Rattle.cpl_xgrid.specs.declared.parts.Surface.{Surface}
-use Rattle.cpl_restart.specs.States.{air_cells}
-use Rattle.cpl_restart.specs.Elements.{air_number, area_before, element_area, element_count, share_at}
-use Rattle.cpl_restart.specs.FastStep.{Before, absorbed, albedo, sun_on}
-use Rattle.cpl_restart.specs.FastLaws.{IsPlaced}
+use Rattle.cpl_state.specs.States.{air_cells}
+use Rattle.cpl_state.specs.Elements.{air_number, area_before, element_area, element_count, share_at}
+use Rattle.cpl_state.specs.FastStep.{Before, absorbed, albedo, sun_on}
+use Rattle.cpl_state.specs.FastLaws.{IsPlaced}
 use Rattle.cpl_laws.proofs.Elements.{air_below}
 use Rattle.cpl_laws.proofs.Flows.{strength_least}
 use Rattle.cpl_fast.specs.declared.flows.Flow.{Flow}

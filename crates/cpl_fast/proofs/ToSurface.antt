@@ -15,9 +15,9 @@ use Rattle.cpl_xgrid.specs.declared.parts.Surface.{Surface}
 use Rattle.cpl_xgrid.specs.declared.parts.Surface.TheVariants.{Land, Ocean}
 use Rattle.cpl_xgrid.specs.Rows.{rows_of}
 use Rattle.cpl_xgrid.proofs.Sums.{land_refs_are, ocean_refs_are}
-use Rattle.cpl_restart.specs.States.{categories, land_cells, ocean_cells}
-use Rattle.cpl_restart.specs.Elements.{tiles_of, element_count, over_part, refs_of_surface_cell}
-use Rattle.cpl_restart.specs.FastStep.{Before, absorbed, category_heat_after, category_taken, for_each, for_each_category, heat_down, heat_to_ice, heat_to_land, land_after, land_taken, part_absorbed, part_taken, rain_on, rain_on_ice, skin_after, skin_taken, water_to_ice, water_to_land, water_up}
+use Rattle.cpl_state.specs.States.{categories, land_cells, ocean_cells}
+use Rattle.cpl_state.specs.Elements.{tiles_of, element_count, over_part, refs_of_surface_cell}
+use Rattle.cpl_state.specs.FastStep.{Before, absorbed, category_heat_after, category_taken, for_each, for_each_category, heat_down, heat_to_ice, heat_to_land, land_after, land_taken, part_absorbed, part_taken, rain_on, rain_on_ice, skin_after, skin_taken, water_to_ice, water_to_land, water_up}
 use Rattle.cpl_diffusion.proofs.Sums.{sum_to}
 use Rattle.cpl_laws.specs.Once.{IsNumbered}
 use Rattle.cpl_laws.proofs.Sums.{cells_same, total_add, blocks, total_range}

@@ -4,10 +4,10 @@ use Rattle.cpl_fixed.specs.Amounts.{at}
 use Rattle.cpl_xgrid.specs.declared.grid.Grid.{Grid}
 use Rattle.cpl_xgrid.specs.declared.parts.Surface.{Surface}
 use Rattle.cpl_xgrid.specs.Rows.{rows_of}
-use Rattle.cpl_restart.specs.declared.whole.Whole.{Whole}
-use Rattle.cpl_restart.specs.States.{air_cells, air_side}
-use Rattle.cpl_restart.specs.Elements.{element_count, element_area}
-use Rattle.cpl_restart.specs.FastStep.{Before}
+use Rattle.cpl_state.specs.declared.whole.Whole.{Whole}
+use Rattle.cpl_state.specs.States.{air_cells, air_side}
+use Rattle.cpl_state.specs.Elements.{element_count, element_area}
+use Rattle.cpl_state.specs.FastStep.{Before}
 use Rattle.cpl_flux.specs.Temperatures.{weather}
 use Rattle.cpl_fast.specs.declared.flows.Sky.{Sky}
 use Rattle.cpl_fast.specs.declared.flows.Tables.{Tables}

@@ -6,8 +6,8 @@ use Rattle.cpl_flux.specs.declared.parts.Kind.TheVariants as kind
 use Rattle.cpl_flux.specs.declared.parts.Part.{Part}
 use Rattle.cpl_mosaic.specs.Contacts.{cells_of}
 use Rattle.cpl_xgrid.specs.declared.parts.Surface.{Surface}
-use Rattle.cpl_restart.specs.Elements.{element_count, tiles_of}
-use Rattle.cpl_restart.specs.FastStep.{Before, surface_part}
+use Rattle.cpl_state.specs.Elements.{element_count, tiles_of}
+use Rattle.cpl_state.specs.FastStep.{Before, surface_part}
 use Rattle.cpl_fast.specs.declared.part_lists.PartLists.{PartLists}
 use Rattle.cpl_fast.specs.Places.{place_in}
 

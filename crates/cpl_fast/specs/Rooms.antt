@@ -8,11 +8,11 @@ use Rattle.cpl_xgrid.specs.declared.grid.Grid.{Grid}
 use Rattle.cpl_xgrid.specs.declared.parts.Surface.{Surface}
 use Rattle.cpl_xgrid.specs.declared.parts.Surface.TheVariants.{Land, Ocean}
 use Rattle.cpl_xgrid.specs.Rows.{rows_of}
-use Rattle.cpl_restart.specs.declared.whole.Whole.{Whole}
-use Rattle.cpl_restart.specs.declared.whole.Mid.{Mid}
-use Rattle.cpl_restart.specs.States.{air_cells, land_cells, ocean_cells}
-use Rattle.cpl_restart.specs.Elements.{element_count, part_area, tiles_of}
-use Rattle.cpl_restart.specs.FastStep.{Before, absorbed}
+use Rattle.cpl_state.specs.declared.whole.Whole.{Whole}
+use Rattle.cpl_state.specs.declared.whole.Mid.{Mid}
+use Rattle.cpl_state.specs.States.{air_cells, land_cells, ocean_cells}
+use Rattle.cpl_state.specs.Elements.{element_count, part_area, tiles_of}
+use Rattle.cpl_state.specs.FastStep.{Before, absorbed}
 use Rattle.cpl_fast.specs.declared.flows.Flow.{Flow}
 use Rattle.cpl_fast.specs.declared.flows.Tables.{Tables}
 use Rattle.cpl_fast.specs.declared.room.FastRoom.{FastRoom}

@@ -7,11 +7,11 @@ use Rattle.cpl_xgrid.specs.declared.parts.Surface.{Surface}
 use Rattle.cpl_xgrid.specs.declared.parts.Surface.TheVariants.{Land, Ocean}
 use Rattle.cpl_xgrid.specs.Rows.{rows_of}
 use Rattle.cpl_laws.specs.Once.{IsNumbered, over_list}
-use Rattle.cpl_restart.specs.declared.whole.Mid.{Mid}
-use Rattle.cpl_restart.specs.States.{air_cells, land_cells, ocean_cells}
-use Rattle.cpl_restart.specs.Elements.{element_count, over_elements}
-use Rattle.cpl_restart.specs.FastStep.{Before, heat_down, water_up, absorbed, heat_after_rain, vapour_after_rain, rain, air_heat_after, air_vapour_after, land_after, skin_after, category_heat_after, heat_given, water_given, heat_to_land, water_to_land, heat_to_ice, water_to_ice, for_each, for_each_category}
-use Rattle.cpl_restart.specs.FastLaws.{CanStep, KeepsAll}
+use Rattle.cpl_state.specs.declared.whole.Mid.{Mid}
+use Rattle.cpl_state.specs.States.{air_cells, land_cells, ocean_cells}
+use Rattle.cpl_state.specs.Elements.{element_count, over_elements}
+use Rattle.cpl_state.specs.FastStep.{Before, heat_down, water_up, absorbed, heat_after_rain, vapour_after_rain, rain, air_heat_after, air_vapour_after, land_after, skin_after, category_heat_after, heat_given, water_given, heat_to_land, water_to_land, heat_to_ice, water_to_ice, for_each, for_each_category}
+use Rattle.cpl_state.specs.FastLaws.{CanStep, KeepsAll}
 use Rattle.cpl_fast.specs.declared.flows.Flow.{Flow}
 use Rattle.cpl_fast.specs.declared.room.FastRoom.{FastRoom}
 use Rattle.cpl_fast.specs.declared.stages.Flown.{Flown}

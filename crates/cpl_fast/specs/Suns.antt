@@ -3,7 +3,7 @@ use Rattle.std.specs.Prelude.{ℕ, ℤ, pos, ◌+ℤ◌, ◌-ℤ◌}
 use Rattle.cpl_fixed.specs.Shares.{part_of, share}
 use Rattle.cpl_fixed.specs.declared.rates.Rates.{Rates}
 use Rattle.cpl_xgrid.specs.declared.parts.Surface.{Surface}
-use Rattle.cpl_restart.specs.FastStep.{albedo}
+use Rattle.cpl_state.specs.FastStep.{albedo}
 use Rattle.cpl_fast.specs.declared.flows.Flow.{Flow}
 use Rattle.cpl_fast.specs.declared.flows.Tables.{Tables}
 use Rattle.cpl_fast.specs.Flows.{area_in, before_in}

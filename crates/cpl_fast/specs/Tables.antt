@@ -17,7 +17,7 @@ use Rattle.cpl_xgrid.specs.declared.parts.Surface.TheVariants.{Land, Ocean}
 use Rattle.cpl_xgrid.specs.Lists.{IsArea, XGridLists}
 use Rattle.cpl_xgrid.specs.Rows.{air_cell, other_cell, area_of, refs_of_other, rows_of}
 use Rattle.cpl_xgrid.specs.Indexes.{AreCells, no_row}
-use Rattle.cpl_restart.specs.Elements.{air_number, surface_number, rows_before}
+use Rattle.cpl_state.specs.Elements.{air_number, surface_number, rows_before}
 use Rattle.cpl_fast.specs.declared.flows.Link.{Link}
 use Rattle.cpl_fast.specs.declared.flows.Sky.{Sky}
 use Rattle.cpl_fast.specs.Flows.{link_at}

@@ -1,7 +1,7 @@
 // The tables of a list: room for them, and the areas of the elements of a state.
 ghost use Rattle.std.specs.Prelude.{◌≡◌, ◌*◌, ◌≤◌, length, IfOk};
 ghost use Rattle.cpl_fixed.specs.declared.limits.TheConstants.{MOST_EXCHANGE_CELLS};
-ghost use Rattle.cpl_restart.specs.States.{IsWhole};
+ghost use Rattle.cpl_state.specs.States.{IsWhole};
 ghost use Rattle.cpl_xgrid.specs.declared.parts.Surface.TheVariants.{Land, Ocean};
 ghost use Rattle.cpl_laws.specs.Once.{IsNumbered};
 ghost use Rattle.cpl_fast.specs.Filled.{AreElementAreas};
@@ -10,7 +10,7 @@ ghost use Rattle.cpl_fast.specs.Rooms.{HasTables};
 
 use crate::flows::{Link, Tables};
 use crate::tables::{fill_land_areas, fill_ocean_areas};
-use cpl_restart::Whole;
+use cpl_state::Whole;
 use cpl_xgrid::{Grid, Surface};
 use std::alloc::{AllocError, Global};
 

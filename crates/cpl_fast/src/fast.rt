@@ -1,7 +1,7 @@
 // The fast step.
 ghost use Rattle.std.specs.Prelude.{◌≡◌};
-ghost use Rattle.cpl_restart.specs.FastLaws.{CanStep, KeepsAll};
-ghost use Rattle.cpl_restart.specs.FastStep.{entered, fast_after, gave, left, rain_on, took};
+ghost use Rattle.cpl_state.specs.FastLaws.{CanStep, KeepsAll};
+ghost use Rattle.cpl_state.specs.FastStep.{entered, fast_after, gave, left, rain_on, took};
 ghost use Rattle.cpl_xgrid.specs.declared.parts.Surface.TheVariants.{Land, Ocean};
 ghost use Rattle.cpl_fast.specs.Rooms.{IsDivided, before_step};
 ghost use Rattle.cpl_fast.specs.Stages.{HasAir, HasFlows, HoldsAir, given, step_of, with_air};
@@ -9,7 +9,7 @@ ghost use Rattle.cpl_fast.specs.Stages.{HasAir, HasFlows, HoldsAir, given, step_
 use crate::room::FastRoom;
 use crate::stages::{Given, View};
 use cpl_fixed::Rates;
-use cpl_restart::Mid;
+use cpl_state::Mid;
 use cpl_xgrid::Grid;
 
 /// What a fast step moved. `entered` is the sun that was absorbed and `left` the heat to space. `gave` is what the cells of the air

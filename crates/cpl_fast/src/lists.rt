@@ -1,8 +1,8 @@
 // What a step does with all elements of one list, land or ocean. The contracts here speak of the step, those below of rows.
 ghost use Rattle.std.specs.Prelude.{◌≡◌, ◌*◌, ◌^◌, length};
-ghost use Rattle.cpl_restart.specs.FastLaws.{CanStep};
-ghost use Rattle.cpl_restart.specs.FastStep.{for_each, rain, rain_on};
-ghost use Rattle.cpl_restart.specs.States.{air_cells};
+ghost use Rattle.cpl_state.specs.FastLaws.{CanStep};
+ghost use Rattle.cpl_state.specs.FastStep.{for_each, rain, rain_on};
+ghost use Rattle.cpl_state.specs.States.{air_cells};
 ghost use Rattle.cpl_fast.specs.Filled.{AreElementAreas, AreSkies, AreTables};
 ghost use Rattle.cpl_fast.specs.Rooms.{ArePartAreas, HasTables, HaveSuns};
 ghost use Rattle.cpl_fast.specs.Stages.{AreFlows, IsLawful, dry, given, step_of, sums_of};

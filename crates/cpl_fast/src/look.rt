@@ -1,13 +1,13 @@
 // What a fast step sees of the air.
 ghost use Rattle.std.specs.Prelude.{◌≡◌};
-ghost use Rattle.cpl_restart.specs.FastLaws.{CanStep};
+ghost use Rattle.cpl_state.specs.FastLaws.{CanStep};
 ghost use Rattle.cpl_fast.specs.Filled.{AreSkies};
 ghost use Rattle.cpl_fast.specs.Rooms.{IsDivided, before_step};
 
 use crate::room::FastRoom;
 use crate::tables::fill_skies;
 use cpl_fixed::Rates;
-use cpl_restart::Mid;
+use cpl_state::Mid;
 use cpl_xgrid::Grid;
 
 impl FastRoom {

@@ -1,13 +1,13 @@
 // A fast step with its room.
 ghost use Rattle.std.specs.Prelude.{◌≡◌, IfOk, OnErr, OnOk};
-ghost use Rattle.cpl_restart.specs.FastLaws.{CanStep, KeepsAll};
-ghost use Rattle.cpl_restart.specs.FastStep.{entered, fast_after, gave, left, took};
+ghost use Rattle.cpl_state.specs.FastLaws.{CanStep, KeepsAll};
+ghost use Rattle.cpl_state.specs.FastStep.{entered, fast_after, gave, left, took};
 ghost use Rattle.cpl_fast.specs.Rooms.{before_step};
 
 use crate::fast::{FastTally, step};
 use crate::room::FastRoom;
 use cpl_namelist::Names;
-use cpl_restart::Mid;
+use cpl_state::Mid;
 use cpl_xgrid::Grid;
 use std::alloc::{AllocError, Global};
 

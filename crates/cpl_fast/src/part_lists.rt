@@ -1,6 +1,6 @@
 // The parts of the surface, by the lists of a state.
 ghost use Rattle.std.specs.Prelude.{◌≡◌, ◌<◌, ◌≤◌, length};
-ghost use Rattle.cpl_restart.specs.FastLaws.{CanStep};
+ghost use Rattle.cpl_state.specs.FastLaws.{CanStep};
 ghost use Rattle.cpl_xgrid.specs.declared.parts.Surface.TheVariants.{Land, Ocean};
 ghost use Rattle.cpl_fast.specs.PartLists.{AreParts, HaveCounts, part_in};
 ghost use Rattle.cpl_fast.specs.Rooms.{ArePartAreas};

@@ -1,9 +1,9 @@
 // Room for fast steps.
 ghost use Rattle.std.specs.Prelude.{◌≡◌, ℕ, ◌*◌, ◌≤◌, length, IfOk};
 ghost use Rattle.cpl_fixed.specs.declared.limits.TheConstants.{MOST_EXCHANGE_CELLS};
-ghost use Rattle.cpl_restart.specs.Diffusion.{IsAirMesh};
-ghost use Rattle.cpl_restart.specs.FastLaws.{CanStep};
-ghost use Rattle.cpl_restart.specs.States.{IsWhole};
+ghost use Rattle.cpl_state.specs.Diffusion.{IsAirMesh};
+ghost use Rattle.cpl_state.specs.FastLaws.{CanStep};
+ghost use Rattle.cpl_state.specs.States.{IsWhole};
 ghost use Rattle.cpl_xgrid.specs.Grids.{IsGrid};
 ghost use Rattle.cpl_fast.specs.Flows.{flow_at, no_flow};
 ghost use Rattle.cpl_fast.specs.Rooms.{HasAreas, IsDivided, IsFastRoom, IsStillRoom, before_step};
@@ -16,7 +16,7 @@ use crate::tables::{GridLinks, links_of, sum_land_areas, sum_ocean_areas};
 use cpl_diffusion::{Room, Ways, make_room, make_ways};
 use cpl_fixed::Rates;
 use cpl_flux::{AirSide, Weather};
-use cpl_restart::{Mid, Whole};
+use cpl_state::{Mid, Whole};
 use cpl_xgrid::{Grid, Surface};
 use std::alloc::{AllocError, Global};
 

@@ -1,8 +1,8 @@
 // The stages of a fast step, one after another, in its room.
 ghost use Rattle.std.specs.Prelude.{◌≡◌};
 ghost use Rattle.cpl_xgrid.specs.declared.parts.Surface.TheVariants.{Land, Ocean};
-ghost use Rattle.cpl_restart.specs.FastLaws.{CanStep};
-ghost use Rattle.cpl_restart.specs.FastStep.{entered, left, rain_on};
+ghost use Rattle.cpl_state.specs.FastLaws.{CanStep};
+ghost use Rattle.cpl_state.specs.FastStep.{entered, left, rain_on};
 ghost use Rattle.cpl_fast.specs.Stages.{HasAir, HasFlows, HasRained, IsFlown, IsLawful, IsSeen, dry, given, step_of};
 
 use crate::air::air_lists;
@@ -11,7 +11,7 @@ use crate::room::FastRoom;
 use crate::sums::{FlowLists, Sums, Taken};
 use cpl_diffusion::diffuse;
 use cpl_fixed::Rates;
-use cpl_restart::Mid;
+use cpl_state::Mid;
 use cpl_xgrid::{Grid, Surface};
 
 /// What a fast step goes by: the grid, the rates, the month, 1 to 12, and the state before the step.

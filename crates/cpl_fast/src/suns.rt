@@ -4,7 +4,7 @@ ghost use Rattle.std.specs.Prelude.{◌≡◌, ◌≢◌, ℕ, ◌<◌, length, 
 ghost use Rattle.cpl_fixed.specs.Amounts.{IsAmount, at};
 ghost use Rattle.cpl_fixed.specs.Ranges.{AreRates, IsFromℤ};
 ghost use Rattle.cpl_fixed.specs.Shares.{part_of};
-ghost use Rattle.cpl_restart.specs.FastStep.{albedo};
+ghost use Rattle.cpl_state.specs.FastStep.{albedo};
 ghost use Rattle.cpl_fast.specs.Flows.{ArePortions, IsInCell, before_in, flow_at, link_at};
 ghost use Rattle.cpl_fast.specs.Places.{place_in};
 ghost use Rattle.cpl_fast.specs.Sums.{AreClear, AreStill, FitFlows, IsClear, IsStill};

@@ -8,7 +8,7 @@ use crate::land::land_lists;
 use crate::ocean::{IceParts, ocean_lists};
 use crate::room::FastRoom;
 use crate::sums::Taken;
-use cpl_restart::Mid;
+use cpl_state::Mid;
 use cpl_xgrid::Grid;
 
 impl FastRoom {

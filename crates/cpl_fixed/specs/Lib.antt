@@ -7,3 +7,5 @@ pub mod Amounts
 pub mod Shares
 pub mod Reciprocals
 pub mod Flows
+pub mod Limits
+pub mod Lends

@@ -1,4 +1,5 @@
 // The limits of what the coupler takes, and the scale of its heat. All are defined by this project.
+ghost use Rattle.cpl_fixed.specs.Limits.{AreLimits, AreScales};
 
 /// Bytes of a grid's file: 64 MiB.
 pub const MOST_GRID_BYTES: u64 = 1 << 26;
@@ -65,3 +66,9 @@ pub const WATER_HEAT: i64 = 1_426;
 pub const VAPOUR_HEAT: i64 = 3_926;
 /// The heat that melts one unit of ice at freezing: what the water holds more than the ice.
 pub const MELT_HEAT: i64 = 334;
+
+/// Each limit and each number of the scale of heat is the one that the formats and the model give, whatever else cites it.
+pub fn limits_law()
+    ensures limits { AreLimits }
+    ensures scales { AreScales }
+{}

@@ -1,5 +1,7 @@
 // A list whose contracts see its items.
 ghost use Rattle.std.specs.Prelude.{◌≡◌, length};
+ghost use Rattle.std.specs.Borrow.{sem};
+ghost use Rattle.cpl_fixed.specs.Lends.{LendsItems};
 
 use std::marker::Model;
 use std::mem;
@@ -50,6 +52,14 @@ impl<T> List<T> {
         ensures { result.now ≡ self.now }
     {
         self.items.as_slice()
+    }
+
+    /// The items, for writing. The list has what they are when the loan ends.
+    pub fn as_mut_slice(&mut self) -> &mut [T]
+        ensures* writes_back { sem 𝓛 (LendsItems T.row self.entry result) }
+        ensures value { result.now ≡ self.old }
+    {
+        self.items.as_mut_slice()
     }
 
     /// How many items there are.

@@ -1,5 +1,5 @@
 -- Temperatures in millikelvin, and humidity.
-use Rattle.std.specs.Prelude.{ℕ, ◌+◌, ◌-◌, ◌*◌, ◌/◌, ◌==◌, min, if◌then◌else◌}
+use Rattle.std.specs.Prelude.{◌≡◌, ℕ, ◌+◌, ◌-◌, ◌*◌, ◌/◌, ◌==◌, min, if◌then◌else◌}
 pub use Rattle.cpl_fixed.specs.Amounts.{amount}
 use Rattle.cpl_fixed.specs.declared.limits.TheConstants.{VAPOUR_HEAT, MELT_HEAT}
 use Rattle.cpl_fixed.specs.declared.rates.Rates.{Rates}
@@ -47,3 +47,9 @@ humidity rates air = min (amount air.vapour * amount rates.hs / amount air.area)
 -- what is worked out once for a cell of the air
 abbrev pub weather : Rates → AirSide → Weather
 weather rates air = record { temperature = air_temperature rates air; humidity = humidity rates air }
+
+-- freezing and the ends of what is served, each by its number: millikelvin, and thousandths of humidity
+pub record AreTemperatures : Type 0 where
+  pub freezing : FREEZING ≡ 273_000
+  pub hottest : HOTTEST ≡ 400_000
+  pub humid : MOST_HUMIDITY ≡ 1_600

@@ -7,4 +7,6 @@ mod temperatures;
 
 pub use fluxes::{element, element_between};
 pub use parts::{AirSide, Flux, Kind, Part, Weather};
-pub use temperatures::{FREEZING, HOTTEST, air_temperature, humidity, part_temperature, weather};
+pub use temperatures::{
+    FREEZING, HOTTEST, air_temperature, humidity, part_temperature, temperatures_law, weather,
+};

@@ -2,7 +2,7 @@
 ghost use Rattle.std.specs.Prelude.{◌≡◌, ◌*◌, ◌≤◌, ◌^◌};
 ghost use Rattle.cpl_fixed.specs.Ranges.{AreRates};
 ghost use Rattle.cpl_flux.specs.Elements.{IsAirSide, IsPart};
-ghost use Rattle.cpl_flux.specs.Temperatures.{air_temperature, humidity, land_temperature, part_temperature, temperature, weather, ice_temperature, water_temperature};
+ghost use Rattle.cpl_flux.specs.Temperatures.{AreTemperatures, air_temperature, humidity, land_temperature, part_temperature, temperature, weather, ice_temperature, water_temperature};
 
 use crate::parts::{AirSide, Kind, Part, Weather};
 use cpl_fixed::{MELT_HEAT, MOST_TOTAL, Rates, VAPOUR_HEAT, quotient};
@@ -112,3 +112,8 @@ pub fn part_temperature(rates: &Rates, part: &Part) -> u32
         Kind::Ice => ice_temperature(part),
     }
 }
+
+/// Freezing, the hottest temperature and the greatest humidity are the numbers that the model gives.
+pub fn temperatures_law()
+    ensures { AreTemperatures }
+{}

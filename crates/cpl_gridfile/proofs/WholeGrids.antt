@@ -1,9 +1,10 @@
 -- A coupled grid that is read is a grid for the crates above.
 use Rattle.std.proofs.Common.{◌≡◌, refl, sym, ap, List, Option, Some, None, Result, Ok, Err}
 use Rattle.std.specs.Prelude.{IfOk, All}
+use Rattle.cpl_fixed.specs.Flows.{IsAirArea}
 use Rattle.cpl_fixed.specs.Ranges.{IsFromℤ}
 use Rattle.cpl_fixed.specs.declared.limits.TheConstants.{MOST_WEIGHT}
-use Rattle.cpl_fixed.specs.declared.words.Component.TheVariants.{Land, Ocean}
+use Rattle.cpl_fixed.specs.declared.words.Component.TheVariants.{Atmos, Land, Ocean}
 use Rattle.cpl_xgrid.specs.declared.grid.Grid.{Grid}
 use Rattle.cpl_xgrid.specs.declared.parts.XRow.{XRow}
 use Rattle.cpl_xgrid.specs.declared.parts.Outlet.{Outlet}
@@ -16,7 +17,12 @@ use Rattle.cpl_gridfile.specs.Within.{RowIsWithin, OutletIsWithin}
 use Rattle.cpl_gridfile.specs.Rules.{◌then◌, mosaic_fault}
 use Rattle.cpl_gridfile.specs.AirGrid.{air_fault}
 use Rattle.cpl_gridfile.specs.CoupledGrid.{IsCoupledGrid, parts_of_grid, at_xgrid, exchange_fault, coupled_fault}
+use Rattle.cpl_gridfile.proofs.AirAreas.{air_areas}
 use Rattle.cpl_gridfile.proofs.CoupledJudging.{mesh_is_mesh}
+
+first_none : (first others : Option GridError) → (first then others) ≡ None → first ≡ None
+first_none None others e = refl
+first_none (Some fault) others e = absurd cc
 
 last_none : (first others : Option GridError) → (first then others) ≡ None → others ≡ None
 last_none None others e = e
@@ -62,3 +68,14 @@ is_grid grid is =
 pub whole_grid : (returned : Result Grid GridError) → IfOk returned IsCoupledGrid → IfOk returned IsGrid
 whole_grid (Ok grid) is = is_grid grid is
 whole_grid (Err fault) is = tt
+
+-- each cell of the air has an area above 0
+pub air_has_areas : (grid : Grid) → IsCoupledGrid grid → All IsAirArea grid.air.area
+air_has_areas grid is =
+    let p = parts_of_grid grid in
+    let others = mosaic_fault Land p.land then mosaic_fault Ocean p.ocean then exchange_fault p in
+    air_areas grid.air.area (mosaic_fault Atmos grid.air) is.limits.limits.air.areas (first_none (air_fault p.air) others is.rules)
+
+pub whole_areas : (returned : Result Grid GridError) → IfOk returned IsCoupledGrid → IfOk returned (λ grid. All IsAirArea grid.air.area)
+whole_areas (Ok grid) is = air_has_areas grid is
+whole_areas (Err fault) is = tt

@@ -95,12 +95,13 @@ fn coupled_grid(alloc: Global, bytes: &[u8]) -> Result<Grid, GridError>
 ///
 /// `Syntax` and `Limit` name the first line at fault, where a line's form comes before its limits. Then the rules are judged:
 /// `Area`; `ContactRange`, `ContactTwice` and `SelfMeet` of the air's mosaic, then of the land's, then of the ocean's; and those
-/// of the exchange grid, from `BadIndex` to `NoOutlet`.
+/// of the exchange grid, from `BadIndex` to `NoOutlet`. So each cell of the air of a grid that is read has an area above 0.
 pub fn read_grid(alloc: Global, bytes: &[u8]) -> Result<Grid, GridError>
     // What is read is spelled so, and keeps the rules.
     ensures found { IfOk result IsCoupledGrid }
     ensures spelled { IfOk result (λ grid. bytes.now ≡ grid_text grid) }
     ensures grid { IfOk result IsGrid }
+    ensures areas { IfOk result (λ grid. All IsAirArea grid.air.area) }
     // What is spelled so is read, unless memory ran out.
     ensures only { (grid : GridValue) → IsCoupledGrid grid → bytes.now ≡ grid_text grid
         → Returns is_memory result (Ok grid) }
@@ -118,6 +119,8 @@ pub fn read_grid(alloc: Global, bytes: &[u8]) -> Result<Grid, GridError>
 /// are made. So it takes less memory at once.
 pub fn take_grid(alloc: Global, bytes: Vec<u8>) -> Result<Grid, GridError>
     ensures found { IfOk result IsCoupledGrid }
+    ensures grid { IfOk result IsGrid }
+    ensures areas { IfOk result (λ grid. All IsAirArea grid.air.area) }
     ensures exact { Returns is_memory result (coupled_grid_of bytes.items) }
 {
     let reader = lines(alloc, GridKind::Coupled, &bytes)?;

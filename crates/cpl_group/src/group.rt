@@ -58,6 +58,15 @@ impl Group {
         Ok(Group { strips, fields })
     }
 
+    /// The n-th strip.
+    pub fn strip(&self, n: u32) -> &Strip
+        requires { n < length self.now.strips }
+        ensures strip { result.now ≡ strip_at self.now.strips n }
+        ensures rules { IsStrip result.now }
+    {
+        &self.strips[n as usize]
+    }
+
     /// How many numbers the buffer of a strip has.
     pub fn len(&self, strip: u32) -> usize
         requires { strip < length self.now.strips }

@@ -16,6 +16,8 @@ mod tests {
 
     const BEGUN: &str = "cpl_io_tests.begun.tmp";
 
+    const LONG: &str = "cpl_io_tests.long.tmp";
+
     fn written<S: Shelf>(shelf: &mut S, name: &str) -> Result<(), ShelfError> {
         shelf.begin(name)?;
         shelf.append(name, b"flux of ")?;
@@ -125,6 +127,34 @@ mod tests {
 
     fn filled(alloc: Global, length: usize) -> Result<Vec<u8>, AllocError> {
         vec![in alloc; 7u8; length]
+    }
+
+    // A byte for a number: for each 256 numbers on it is another.
+    fn byte_of(n: u32) -> u8 {
+        let bytes = n.to_be_bytes();
+        bytes[3].wrapping_add(bytes[2]).wrapping_add(bytes[1])
+    }
+
+    // Bytes of which none is like the one 256 places before it, so that no piece of them is like the next.
+    fn differing(alloc: Global, length: u32) -> Result<Vec<u8>, AllocError> {
+        (0..length).map(|n| byte_of(n)).collect(alloc)
+    }
+
+    #[test]
+    fn a_long_real_file_is_read_as_it_was_written(rt: HostRuntime) -> Result<(), Fail> {
+        let alloc = rt.alloc();
+        let file = differing(alloc, 200_000)?;
+        let mut shelf = FileShelf::new(&rt, alloc);
+        shelf.begin(LONG)?;
+        for piece in file.chunks(70_000) {
+            shelf.append(LONG, piece)?;
+        }
+        let bytes = read_whole(alloc, &mut shelf, LONG, 200_000)?;
+        assert_eq!(rt; bytes == file, true);
+        let short = read_whole(alloc, &mut shelf, LONG, 199_999);
+        assert_eq!(rt; short.err(), Some(ReadError::TooLong));
+        fs::remove_file(&rt, LONG)?;
+        Ok(())
     }
 
     #[test]

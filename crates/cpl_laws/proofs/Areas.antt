@@ -13,9 +13,9 @@ use Rattle.cpl_mosaic.specs.Contacts.{cells_of}
 use Rattle.cpl_xgrid.specs.declared.grid.Grid.{Grid}
 use Rattle.cpl_xgrid.specs.declared.parts.Surface.{Surface}
 use Rattle.cpl_xgrid.specs.declared.parts.Surface.TheVariants.{Land, Ocean}
-use Rattle.cpl_restart.specs.declared.whole.Whole.{Whole}
-use Rattle.cpl_restart.specs.States.{air_cells, part_count, all_of_cell, of_cell, IsWhole, IsWet}
-use Rattle.cpl_restart.specs.Elements.{tiles_of, surface_number, refs_of_air_cell, refs_of_surface_cell, element_count, areas_in, element_area, over_elements, over_all, part_area}
+use Rattle.cpl_state.specs.declared.whole.Whole.{Whole}
+use Rattle.cpl_state.specs.States.{air_cells, part_count, all_of_cell, of_cell, IsWhole, IsWet}
+use Rattle.cpl_state.specs.Elements.{tiles_of, surface_number, refs_of_air_cell, refs_of_surface_cell, element_count, areas_in, element_area, over_elements, over_all, part_area}
 use Rattle.cpl_diffusion.proofs.Sums.{sum_to, sum_to-above}
 use Rattle.cpl_laws.specs.Once.{IsNumbered}
 use Rattle.cpl_laws.specs.Cells.{mesh_of}

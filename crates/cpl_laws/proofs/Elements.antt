@@ -31,8 +31,8 @@ use Rattle.cpl_xgrid.specs.Indexes.{no_row, ref_area}
 use Rattle.cpl_xgrid.proofs.CellNumbers.{same_cell, own_cell}
 use Rattle.cpl_xgrid.proofs.Faults.{none_faulty}
 use Rattle.cpl_xgrid.proofs.Sums.{list_sum}
-use Rattle.cpl_restart.specs.States.{air_cells}
-use Rattle.cpl_restart.specs.Elements.{row_at, tiles_of, air_number, surface_number, refs_of_air_cell, refs_between, refs_of_surface_cell}
+use Rattle.cpl_state.specs.States.{air_cells}
+use Rattle.cpl_state.specs.Elements.{row_at, tiles_of, air_number, surface_number, refs_of_air_cell, refs_between, refs_of_surface_cell}
 use Rattle.cpl_diffusion.proofs.Sums.{sum_to, total_of-sum_to}
 use Rattle.cpl_laws.specs.Once.{IsNumbered}
 use Rattle.cpl_laws.specs.Cells.{mesh_of}

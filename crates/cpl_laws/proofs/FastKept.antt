@@ -16,15 +16,15 @@ use Rattle.cpl_xgrid.specs.declared.grid.Grid.{Grid}
 use Rattle.cpl_xgrid.specs.declared.parts.XRef.{XRef}
 use Rattle.cpl_xgrid.specs.declared.parts.Surface.{Surface}
 use Rattle.cpl_xgrid.specs.declared.parts.Surface.TheVariants.{Land, Ocean}
-use Rattle.cpl_restart.specs.declared.whole.Mid.{Mid}
-use Rattle.cpl_restart.specs.Numbers.{IsStored}
-use Rattle.cpl_restart.specs.Diffusion.{IsAirMesh, AreAmounts}
-use Rattle.cpl_restart.specs.States.{air_cells, land_cells, ocean_cells, categories, of_cell, IsWhole, IsMid, IsDry, HasLengths, AreStored, IsEmptyColumn}
-use Rattle.cpl_restart.specs.Elements.{tiles_of, surface_number, refs_of_surface_cell, over_part}
-use Rattle.cpl_restart.specs.Stocks.{held_within, stocks_of, flying_to_ice, flying_to_ocean}
-use Rattle.cpl_restart.specs.Budget.{sun_of_strength}
-use Rattle.cpl_restart.specs.FastStep.{Before, heat_down, heat_taken, water_taken, absorbed, heat_before_rain, vapour_before_rain, heat_after_rain, vapour_after_rain, air_heat_after, air_vapour_after, land_taken, land_after, skin_taken, rain_on, rain_on_ice, skin_after, category_taken, category_heat_after, entered, left, for_each, for_each_category, fast_after}
-use Rattle.cpl_restart.specs.FastLaws.{CanStep, strength, IsElementOf, IsPlaced, KeepsAll}
+use Rattle.cpl_state.specs.declared.whole.Mid.{Mid}
+use Rattle.cpl_state.specs.Stored.{IsStored}
+use Rattle.cpl_state.specs.Diffusion.{IsAirMesh, AreAmounts}
+use Rattle.cpl_state.specs.States.{air_cells, land_cells, ocean_cells, categories, of_cell, IsWhole, IsMid, IsDry, HasLengths, AreStored, IsEmptyColumn}
+use Rattle.cpl_state.specs.Elements.{tiles_of, surface_number, refs_of_surface_cell, over_part}
+use Rattle.cpl_state.specs.Stocks.{held_within, stocks_of, flying_to_ice, flying_to_ocean}
+use Rattle.cpl_state.specs.Budget.{sun_of_strength}
+use Rattle.cpl_state.specs.FastStep.{Before, heat_down, heat_taken, water_taken, absorbed, heat_before_rain, vapour_before_rain, heat_after_rain, vapour_after_rain, air_heat_after, air_vapour_after, land_taken, land_after, skin_taken, rain_on, rain_on_ice, skin_after, category_taken, category_heat_after, entered, left, for_each, for_each_category, fast_after}
+use Rattle.cpl_state.specs.FastLaws.{CanStep, strength, IsElementOf, IsPlaced, KeepsAll}
 use Rattle.cpl_diffusion.proofs.Conserved.{amount_at, diffused_total, diffused_are}
 use Rattle.cpl_laws.specs.Once.{IsNumbered}
 use Rattle.cpl_laws.specs.Cells.{mesh_of}
@@ -389,6 +389,8 @@ module _ (s : Before) (is : IsNumbered s.grid) (air : IsAirMesh s.grid.air) (mat
     sun_entered = (let range = entered_range s is air can in let room = has_room.sun in (range.0, omega (arith, ints, range.1, room)));
     heat_left = (let range = left_range s is air can in let room = has_room.air_heat in (range.0, omega (arith, ints, range.1, room)));
     exchange = given_is_taken s is some;
+    air_heat = heats_diffused;
+    air_vapour = vapours_diffused;
     after = mid_after;
     heat = heat_total;
     water = water_total;

@@ -14,13 +14,13 @@ use Rattle.cpl_xgrid.specs.declared.grid.Grid.{Grid}
 use Rattle.cpl_xgrid.specs.declared.parts.XRef.{XRef}
 use Rattle.cpl_xgrid.specs.declared.parts.Surface.{Surface}
 use Rattle.cpl_xgrid.specs.declared.parts.Surface.TheVariants.{Land, Ocean}
-use Rattle.cpl_restart.specs.Numbers.{IsStored}
-use Rattle.cpl_restart.specs.Diffusion.{IsAirMesh}
-use Rattle.cpl_restart.specs.States.{air_cells, land_cells, ocean_cells, categories}
-use Rattle.cpl_restart.specs.Elements.{tiles_of, element_count, refs_of_air_cell, refs_of_surface_cell, over_elements, over_all}
-use Rattle.cpl_restart.specs.Budget.{sun_of_strength}
-use Rattle.cpl_restart.specs.FastStep.{Before, sun_on, absorbed, to_space, rain, rain_on, heat_before_rain, vapour_before_rain, heat_after_rain, vapour_after_rain, land_taken, land_after, skin_taken, rain_on_ice, skin_after, category_taken, category_heat_after, part_absorbed, entered, left, for_each, for_each_category}
-use Rattle.cpl_restart.specs.FastLaws.{CanStep, strength}
+use Rattle.cpl_state.specs.Stored.{IsStored}
+use Rattle.cpl_state.specs.Diffusion.{IsAirMesh}
+use Rattle.cpl_state.specs.States.{air_cells, land_cells, ocean_cells, categories}
+use Rattle.cpl_state.specs.Elements.{tiles_of, element_count, refs_of_air_cell, refs_of_surface_cell, over_elements, over_all}
+use Rattle.cpl_state.specs.Budget.{sun_of_strength}
+use Rattle.cpl_state.specs.FastStep.{Before, sun_on, absorbed, to_space, rain, rain_on, heat_before_rain, vapour_before_rain, heat_after_rain, vapour_after_rain, land_taken, land_after, skin_taken, rain_on_ice, skin_after, category_taken, category_heat_after, part_absorbed, entered, left, for_each, for_each_category}
+use Rattle.cpl_state.specs.FastLaws.{CanStep, strength}
 use Rattle.cpl_diffusion.proofs.Sums.{sum_to, sum_to-same, sum_to-above, total_of-sum_to}
 use Rattle.cpl_laws.specs.Once.{IsNumbered}
 use Rattle.cpl_laws.proofs.Sums.{total_range, total_add, cells_same}

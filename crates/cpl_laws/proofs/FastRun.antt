@@ -11,15 +11,15 @@ use Rattle.cpl_fixed.specs.declared.words.Quantity.TheVariants.{Heat, Water, Sal
 use Rattle.cpl_mosaic.specs.Mates.{MatesAgree}
 use Rattle.cpl_namelist.specs.declared.names.Names.{Names}
 use Rattle.cpl_xgrid.specs.declared.grid.Grid.{Grid}
-use Rattle.cpl_restart.specs.declared.whole.Mid.{Mid}
-use Rattle.cpl_restart.specs.Diffusion.{IsAirMesh}
-use Rattle.cpl_restart.specs.States.{IsMid, HasNoFlights}
-use Rattle.cpl_restart.specs.Stocks.{held_within}
-use Rattle.cpl_restart.specs.Budget.{sun_of_strength}
-use Rattle.cpl_restart.specs.FastStep.{Before, entered, left, fast_after}
-use Rattle.cpl_restart.specs.FastLaws.{CanStep, KeepsAll}
-use Rattle.cpl_restart.specs.SurfaceLaws.{IsSameSea}
-use Rattle.cpl_restart.specs.CouplingStep.{before, fast_by, over_fast}
+use Rattle.cpl_state.specs.declared.whole.Mid.{Mid}
+use Rattle.cpl_state.specs.Diffusion.{IsAirMesh}
+use Rattle.cpl_state.specs.States.{IsMid, HasNoFlights}
+use Rattle.cpl_state.specs.Stocks.{held_within}
+use Rattle.cpl_state.specs.Budget.{sun_of_strength}
+use Rattle.cpl_state.specs.FastStep.{Before, entered, left, fast_after}
+use Rattle.cpl_state.specs.FastLaws.{CanStep, KeepsAll}
+use Rattle.cpl_state.specs.SurfaceLaws.{IsSameSea}
+use Rattle.cpl_state.specs.CouplingStep.{before, fast_by, over_fast}
 use Rattle.cpl_laws.specs.Once.{IsNumbered}
 use Rattle.cpl_laws.proofs.FastRanges.{entered_range, left_range}
 use Rattle.cpl_laws.proofs.FastKept.{keeps_all}

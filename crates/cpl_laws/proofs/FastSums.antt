@@ -11,9 +11,9 @@ use Rattle.cpl_xgrid.specs.declared.parts.XRef.{XRef}
 use Rattle.cpl_xgrid.specs.declared.parts.Surface.{Surface}
 use Rattle.cpl_xgrid.specs.declared.parts.Surface.TheVariants.{Land, Ocean}
 use Rattle.cpl_xgrid.specs.Rows.{air_cell, other_cell, rows_of}
-use Rattle.cpl_restart.specs.States.{air_cells, land_cells, ocean_cells, categories, part_count}
-use Rattle.cpl_restart.specs.Elements.{tiles_of, refs_of_air_cell, refs_between, refs_of_surface_cell, over_elements, over_all, over_part}
-use Rattle.cpl_restart.specs.FastStep.{Before, heat_down, water_up, rain_on, for_each, for_each_category, heat_given, water_given, land_taken, heat_to_land, water_to_land, rain_on_ice, skin_taken, category_taken, heat_to_ice, water_to_ice, gave, took}
+use Rattle.cpl_state.specs.States.{air_cells, land_cells, ocean_cells, categories, part_count}
+use Rattle.cpl_state.specs.Elements.{tiles_of, refs_of_air_cell, refs_between, refs_of_surface_cell, over_elements, over_all, over_part}
+use Rattle.cpl_state.specs.FastStep.{Before, heat_down, water_up, rain_on, for_each, for_each_category, heat_given, water_given, land_taken, heat_to_land, water_to_land, rain_on_ice, skin_taken, category_taken, heat_to_ice, water_to_ice, gave, took}
 use Rattle.cpl_diffusion.proofs.Sums.{sum_to, sum_to-same, sum_to-add, sum_to-first}
 use Rattle.cpl_laws.specs.Once.{IsNumbered, over_list}
 use Rattle.cpl_laws.proofs.Sums.{total_range, total_swap, total_add, cells_same, sum_to-times, blocks}

@@ -11,11 +11,11 @@ use Rattle.cpl_xgrid.specs.declared.grid.Grid.{Grid}
 use Rattle.cpl_xgrid.specs.declared.parts.XRef.{XRef}
 use Rattle.cpl_xgrid.specs.declared.parts.Surface.{Surface}
 use Rattle.cpl_xgrid.specs.declared.parts.Surface.TheVariants.{Land, Ocean}
-use Rattle.cpl_restart.specs.Diffusion.{IsAirMesh}
-use Rattle.cpl_restart.specs.States.{air_cells, land_cells, ocean_cells, categories, part_count, of_cell}
-use Rattle.cpl_restart.specs.Elements.{tiles_of, element_count, refs_of_air_cell, refs_of_surface_cell, over_all, over_part}
-use Rattle.cpl_restart.specs.FastStep.{Before, surface_part, heat_down, water_up, to_space, left, for_each, for_each_category}
-use Rattle.cpl_restart.specs.FastLaws.{CanStep}
+use Rattle.cpl_state.specs.Diffusion.{IsAirMesh}
+use Rattle.cpl_state.specs.States.{air_cells, land_cells, ocean_cells, categories, part_count, of_cell}
+use Rattle.cpl_state.specs.Elements.{tiles_of, element_count, refs_of_air_cell, refs_of_surface_cell, over_all, over_part}
+use Rattle.cpl_state.specs.FastStep.{Before, surface_part, heat_down, water_up, to_space, left, for_each, for_each_category}
+use Rattle.cpl_state.specs.FastLaws.{CanStep}
 use Rattle.cpl_diffusion.proofs.Sums.{sum_to, sum_to-same, sum_to-first}
 use Rattle.cpl_laws.specs.Once.{IsNumbered}
 use Rattle.cpl_laws.proofs.Sums.{total_range, total_add, total_sub, cells_same, blocks, in_blocks}

@@ -17,12 +17,12 @@ use Rattle.cpl_xgrid.specs.declared.parts.XRef.{XRef}
 use Rattle.cpl_xgrid.specs.declared.parts.Surface.{Surface}
 use Rattle.cpl_xgrid.specs.declared.parts.Surface.TheVariants.{Land, Ocean}
 use Rattle.cpl_flux.specs.Elements.{eighth}
-use Rattle.cpl_restart.specs.Numbers.{IsStored}
-use Rattle.cpl_restart.specs.Diffusion.{IsAirMesh}
-use Rattle.cpl_restart.specs.States.{air_cells, air_side, IsWhole}
-use Rattle.cpl_restart.specs.Elements.{tiles_of, air_number, surface_number, refs_of_air_cell, refs_of_surface_cell, element_count, element_area, over_elements, over_all, over_part, part_area, share_at}
-use Rattle.cpl_restart.specs.FastStep.{Before, surface_part, albedo, flux, heat_down, water_up, sun_on, absorbed, to_space, rain, rain_on}
-use Rattle.cpl_restart.specs.FastLaws.{CanStep}
+use Rattle.cpl_state.specs.Stored.{IsStored}
+use Rattle.cpl_state.specs.Diffusion.{IsAirMesh}
+use Rattle.cpl_state.specs.States.{air_cells, air_side, IsWhole}
+use Rattle.cpl_state.specs.Elements.{tiles_of, air_number, surface_number, refs_of_air_cell, refs_of_surface_cell, element_count, element_area, over_elements, over_all, over_part, part_area, share_at}
+use Rattle.cpl_state.specs.FastStep.{Before, surface_part, albedo, flux, heat_down, water_up, sun_on, absorbed, to_space, rain, rain_on}
+use Rattle.cpl_state.specs.FastLaws.{CanStep}
 use Rattle.cpl_diffusion.proofs.Conserved.{area_at}
 use Rattle.cpl_laws.specs.Once.{IsNumbered}
 use Rattle.cpl_laws.proofs.Groups.{total_same, total_natural, total_most, all_range}

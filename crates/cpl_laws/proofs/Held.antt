@@ -13,11 +13,11 @@ use Rattle.cpl_fixed.specs.declared.limits.TheConstants.{MOST_TOTAL}
 use Rattle.cpl_fixed.specs.declared.words.Quantity.{Quantity}
 use Rattle.cpl_fixed.specs.declared.words.Quantity.TheVariants.{Heat, Water, Salt}
 use Rattle.cpl_xgrid.specs.declared.grid.Grid.{Grid}
-use Rattle.cpl_restart.specs.declared.whole.Whole.{Whole}
-use Rattle.cpl_restart.specs.Numbers.{IsStored}
-use Rattle.cpl_restart.specs.States.{ocean_cells, of_cell, AreStored}
-use Rattle.cpl_restart.specs.Stocks.{flying_to_ice, flying_to_ocean}
-use Rattle.cpl_restart.specs.FastStep.{for_each}
+use Rattle.cpl_state.specs.declared.whole.Whole.{Whole}
+use Rattle.cpl_state.specs.Stored.{IsStored}
+use Rattle.cpl_state.specs.States.{ocean_cells, of_cell, AreStored}
+use Rattle.cpl_state.specs.Stocks.{flying_to_ice, flying_to_ocean}
+use Rattle.cpl_state.specs.FastStep.{for_each}
 use Rattle.cpl_diffusion.proofs.Sums.{sum_to-above, total_of-sum_to}
 use Rattle.cpl_laws.proofs.Groups.{all_range}
 use Rattle.cpl_laws.proofs.Flows.{stored_natural}

@@ -14,10 +14,10 @@ use Rattle.cpl_ice.specs.declared.cell.IceCell.{IceCell}
 use Rattle.cpl_ice.specs.Cells.{nothing}
 use Rattle.cpl_ice.specs.Slow.{slowed, returned, water_of, heat_of}
 use Rattle.cpl_xgrid.specs.declared.grid.Grid.{Grid}
-use Rattle.cpl_restart.specs.declared.whole.Mid.{Mid}
-use Rattle.cpl_restart.specs.States.{ocean_cells, categories, part_count, of_cell, filled_up, ice_cell, IsWet, IsDry, IsMid}
-use Rattle.cpl_restart.specs.FastStep.{for_each}
-use Rattle.cpl_restart.specs.Slow.{arrived, slow_cell, returned_at, for_each_place}
+use Rattle.cpl_state.specs.declared.whole.Mid.{Mid}
+use Rattle.cpl_state.specs.States.{ocean_cells, categories, part_count, of_cell, filled_up, ice_cell, IsWet, IsDry, IsMid}
+use Rattle.cpl_state.specs.FastStep.{for_each}
+use Rattle.cpl_state.specs.Slow.{arrived, slow_cell, returned_at, for_each_place}
 use Rattle.cpl_diffusion.proofs.Sums.{sum_to, sum_to-same, sum_to-none, total_of-sum_to}
 use Rattle.cpl_laws.specs.Once.{IsNumbered}
 use Rattle.cpl_laws.proofs.Sums.{total_range, sum_to-split, blocks, in_blocks}

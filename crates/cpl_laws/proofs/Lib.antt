@@ -25,3 +25,5 @@ pub mod Months
 pub mod FastRun
 pub mod Surface
 pub mod SurfaceKept
+pub mod UpTo
+pub mod CellColumns

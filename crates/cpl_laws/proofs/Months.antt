@@ -7,8 +7,8 @@ use Rattle.cpl_namelist.specs.declared.names.Names.{Names}
 use Rattle.cpl_namelist.specs.Civil.{part, days_after}
 use Rattle.cpl_namelist.specs.Ranges.{AreNames}
 use Rattle.cpl_namelist.proofs.Months.{found_from}
-use Rattle.cpl_restart.specs.declared.whole.Whole.{Whole}
-use Rattle.cpl_restart.specs.CouplingStep.{month_of}
+use Rattle.cpl_state.specs.declared.whole.Whole.{Whole}
+use Rattle.cpl_state.specs.CouplingStep.{month_of}
 
 pub month_range : (names : Names) (whole : Whole) → AreNames names → IsFrom 1 12 (month_of names whole)
 unfolding month_of

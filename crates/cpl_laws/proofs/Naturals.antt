@@ -2,8 +2,8 @@
 use Rattle.std.specs.Prelude.{pos, ◌≤ℤ◌}
 use Rattle.cpl_fixed.specs.Totals.{total_of}
 use Rattle.cpl_xgrid.specs.declared.grid.Grid.{Grid}
-use Rattle.cpl_restart.specs.declared.whole.Mid.{Mid}
-use Rattle.cpl_restart.specs.States.{IsMid}
+use Rattle.cpl_state.specs.declared.whole.Mid.{Mid}
+use Rattle.cpl_state.specs.States.{IsMid}
 use Rattle.cpl_laws.proofs.FastRanges.{stored_total}
 
 pub record AreNatural (mid : Mid) : Type 0 where

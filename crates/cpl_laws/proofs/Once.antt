@@ -10,7 +10,7 @@ use Rattle.cpl_mosaic.specs.declared.parts.CellId.{CellId}
 use Rattle.cpl_mosaic.specs.Sides.{is_same_cell}
 use Rattle.cpl_mosaic.specs.Contacts.{cells_of}
 use Rattle.cpl_mosaic.specs.Cells.{number_of, cell_of, NumbersAgree}
-use Rattle.cpl_restart.specs.Diffusion.{total_of}
+use Rattle.cpl_state.specs.Diffusion.{total_of}
 use Rattle.cpl_diffusion.proofs.Sums.{sum_to, sum_to-same, sum_to-add, sum_to-none}
 use Rattle.cpl_xgrid.specs.declared.grid.Grid.{Grid}
 use Rattle.cpl_xgrid.specs.declared.parts.XRow.{XRow}

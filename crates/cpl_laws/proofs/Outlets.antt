@@ -13,7 +13,7 @@ use Rattle.cpl_xgrid.specs.Rules.{area_at, outlet_fault}
 use Rattle.cpl_xgrid.proofs.CellNumbers.{cell_is}
 use Rattle.cpl_xgrid.proofs.Faults.{none_faulty}
 use Rattle.cpl_laws.proofs.Rows.{outlets_none}
-use Rattle.cpl_restart.specs.Slow.{no_outlet, outlet_at}
+use Rattle.cpl_state.specs.Slow.{no_outlet, outlet_at}
 
 -- an outlet of which nothing is wrong: its cells are cells, that of the ocean has an area, and it has a weight
 pub record IsOutlet (land ocean : Mesh) (outlet : Outlet) : Type 0 where

@@ -14,9 +14,9 @@ use Rattle.cpl_xgrid.specs.Lists.{IsArea}
 use Rattle.cpl_xgrid.specs.Rows.{air_cell, area_of}
 use Rattle.cpl_xgrid.specs.Indexes.{no_row}
 use Rattle.cpl_xgrid.proofs.CellNumbers.{own_cell}
-use Rattle.cpl_restart.specs.declared.whole.Whole.{Whole}
-use Rattle.cpl_restart.specs.States.{IsWhole}
-use Rattle.cpl_restart.specs.Elements.{air_number, element_count, areas_in, element_area, rows_before, area_before}
+use Rattle.cpl_state.specs.declared.whole.Whole.{Whole}
+use Rattle.cpl_state.specs.States.{IsWhole}
+use Rattle.cpl_state.specs.Elements.{air_number, element_count, areas_in, element_area, rows_before, area_before}
 use Rattle.cpl_laws.specs.Once.{IsNumbered}
 use Rattle.cpl_laws.proofs.Elements.{ref_in, rows_in, row_of, air_below, air_found, air_area}
 use Rattle.cpl_laws.proofs.Areas.{areas_are}

@@ -15,7 +15,7 @@ use Rattle.cpl_xgrid.specs.Grids.{IsGrid}
 use Rattle.cpl_xgrid.specs.Rows.{is_cell, air_cell, other_cell, rows_of}
 use Rattle.cpl_xgrid.specs.Rules.{row_fault, first_fault, or_else, air_fault, land_fault, ocean_fault, outlet_fault, no_outlet_fault}
 use Rattle.cpl_xgrid.specs.Indexes.{AreCells}
-use Rattle.cpl_restart.specs.Elements.{tiles_of}
+use Rattle.cpl_state.specs.Elements.{tiles_of}
 use Rattle.cpl_xgrid.proofs.CellNumbers.{cell_is}
 use Rattle.cpl_xgrid.proofs.Faults.{first_none, rest_none, none_faulty}
 

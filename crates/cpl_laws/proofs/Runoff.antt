@@ -26,9 +26,9 @@ use Rattle.cpl_xgrid.specs.Rules.{no_outlet_fault, area_at}
 use Rattle.cpl_xgrid.specs.Indexes.{AreCells}
 use Rattle.cpl_xgrid.proofs.CellNumbers.{same_cell, own_cell}
 use Rattle.cpl_xgrid.proofs.Faults.{none_faulty}
-use Rattle.cpl_restart.specs.States.{land_cells, ocean_cells, IsDry}
-use Rattle.cpl_restart.specs.FastStep.{for_each}
-use Rattle.cpl_restart.specs.Slow.{no_outlet, outlet_at, drained_cell, weights_of, weight_before, outlet_share, outlet_ocean, outlets_to}
+use Rattle.cpl_state.specs.States.{land_cells, ocean_cells, IsDry}
+use Rattle.cpl_state.specs.FastStep.{for_each}
+use Rattle.cpl_state.specs.Slow.{no_outlet, outlet_at, drained_cell, weights_of, weight_before, outlet_share, outlet_ocean, outlets_to}
 use Rattle.cpl_laws.specs.Once.{IsNumbered}
 use Rattle.cpl_laws.proofs.Sums.{cells_same}
 use Rattle.cpl_laws.proofs.Groups.{each_number, total_same, total_none, total_natural}

@@ -19,10 +19,10 @@ use Rattle.cpl_xgrid.specs.declared.parts.Surface.TheVariants.{Land, Ocean}
 use Rattle.cpl_xgrid.specs.Lists.{IsArea}
 use Rattle.cpl_xgrid.specs.Rows.{air_cell, numbers_of, area_of}
 use Rattle.cpl_xgrid.specs.Indexes.{no_row}
-use Rattle.cpl_restart.specs.declared.whole.Whole.{Whole}
-use Rattle.cpl_restart.specs.Diffusion.{IsAirMesh}
-use Rattle.cpl_restart.specs.States.{air_cells, IsWhole}
-use Rattle.cpl_restart.specs.Elements.{row_at, air_number, refs_of_air_cell, refs_between, element_count, areas_in, element_area, over_elements, over_all, rows_before, area_before, share_at}
+use Rattle.cpl_state.specs.declared.whole.Whole.{Whole}
+use Rattle.cpl_state.specs.Diffusion.{IsAirMesh}
+use Rattle.cpl_state.specs.States.{air_cells, IsWhole}
+use Rattle.cpl_state.specs.Elements.{row_at, air_number, refs_of_air_cell, refs_between, element_count, areas_in, element_area, over_elements, over_all, rows_before, area_before, share_at}
 use Rattle.cpl_diffusion.proofs.Sums.{sum_to}
 use Rattle.cpl_diffusion.proofs.Conserved.{area_at}
 use Rattle.cpl_laws.specs.Once.{IsNumbered}

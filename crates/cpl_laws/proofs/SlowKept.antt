@@ -4,6 +4,7 @@ use Rattle.std.specs.Prelude.{ℤ, pos, ◌+ℤ◌, ◌≤ℤ◌, All}
 use Rattle.std.specs.List.{range_with_len}
 use Rattle.std.proofs.lemmas.Int.{ints}
 use Rattle.std.proofs.lemmas.Nat.{div_below, mod_below}
+use Rattle.std.proofs.lemmas.List.Elements.{All-from_get_or}
 use Rattle.std.proofs.lemmas.List.FromFn.{length-map-range_with_len}
 use Rattle.cpl_fixed.specs.Amounts.{IsAmount, at}
 use Rattle.cpl_fixed.specs.Totals.{total_of}
@@ -16,13 +17,13 @@ use Rattle.cpl_ice.specs.declared.parts.Salty.{Salty}
 use Rattle.cpl_ice.specs.Cells.{IsIceCell, IsSalty}
 use Rattle.cpl_ice.specs.Slow.{CanSlow, water_of, heat_of}
 use Rattle.cpl_xgrid.specs.declared.grid.Grid.{Grid}
-use Rattle.cpl_restart.specs.declared.whole.Mid.{Mid}
-use Rattle.cpl_restart.specs.Numbers.{IsStored}
-use Rattle.cpl_restart.specs.States.{land_cells, ocean_cells, categories, part_count, of_cell, all_of_cell, land_cell, ice_cell, IsWet, IsDry, IsWhole, HasLengths, AreStored, IsEmptyColumn}
-use Rattle.cpl_restart.specs.FastStep.{for_each}
-use Rattle.cpl_restart.specs.Stocks.{stocks_of}
-use Rattle.cpl_restart.specs.Slow.{runoff_of, arrived, slow_cell, returned_at, for_each_place, to_ocean_number, slow_after}
-use Rattle.cpl_restart.specs.SlowLaws.{CanSlowAll, KeepsSlow, IsGainAmount}
+use Rattle.cpl_state.specs.declared.whole.Mid.{Mid}
+use Rattle.cpl_state.specs.Stored.{IsStored}
+use Rattle.cpl_state.specs.States.{land_cells, ocean_cells, categories, part_count, of_cell, all_of_cell, land_cell, ice_cell, IsWet, IsDry, IsWhole, HasLengths, AreStored, IsEmptyColumn}
+use Rattle.cpl_state.specs.FastStep.{for_each}
+use Rattle.cpl_state.specs.Stocks.{stocks_of}
+use Rattle.cpl_state.specs.Slow.{runoff_of, arrived, slow_cell, returned_at, for_each_place, to_ocean_number, slow_after}
+use Rattle.cpl_state.specs.SlowLaws.{CanSlowAll, KeepsSlow, IsGainAmount}
 use Rattle.cpl_diffusion.proofs.Sums.{sum_to-same}
 use Rattle.cpl_laws.specs.Once.{IsNumbered}
 use Rattle.cpl_laws.proofs.Sums.{total_range, total_add}
@@ -350,6 +351,18 @@ module _ (grid : Grid) (rates : Rates) (mid : Mid) (is : IsNumbered grid) (can :
     to_ocean = places_amounts grid 3 (λ n k. to_ocean_number (returned_at grid rates mid n) k) (omega arith) (λ n k l h. one_of_three (returned_at grid rates mid n) (returned_is n l) k h);
   }
 
+  -- the ice, whose total is in range
+  amounts_within : (xs : List ℤ) → All IsStored xs → total_of xs ≤ℤ pos MOST_TOTAL → All IsAmount xs
+  amounts_within xs all most = All-from_get_or IsAmount xs (pos 0) (λ n l. stored_amount xs all most n)
+
+  ices_after : All IsAmount (slow_after grid rates mid).ice
+  unfolding slow_after
+  ices_after = amounts_within (next_ice grid rates mid is can) stored_after.ice has_room_after.ice
+
+  heats_after : All IsAmount (slow_after grid rates mid).ice_heat
+  unfolding slow_after
+  heats_after = amounts_within (next_heat grid rates mid is can) stored_after.ice_heat has_room_after.ice_heat
+
   parts_after : (n : ℕ) → IsWet grid.ocean n → total_of (all_of_cell (part_count grid) n (slow_after grid rates mid).parts) ≡ PARTS
   unfolding slow_after
   parts_after n wet =
@@ -413,6 +426,8 @@ module _ (grid : Grid) (rates : Rates) (mid : Mid) (is : IsNumbered grid) (can :
     ice = ice_is;
     can_slow = can_slow;
     returned = returned_is;
+    slowed_ice = ices_after;
+    slowed_heat = heats_after;
     after = whole_after;
     heat = heat_total grid rates mid is can;
     water = water_total grid rates mid is can;

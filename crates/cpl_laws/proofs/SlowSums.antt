@@ -16,12 +16,12 @@ use Rattle.cpl_land.specs.Land.{dried, runoff}
 use Rattle.cpl_ice.specs.declared.parts.Salty.{Salty}
 use Rattle.cpl_ice.specs.Slow.{water_of, heat_of}
 use Rattle.cpl_xgrid.specs.declared.grid.Grid.{Grid}
-use Rattle.cpl_restart.specs.declared.whole.Mid.{Mid}
-use Rattle.cpl_restart.specs.States.{land_cells, ocean_cells, categories, of_cell, land_cell, ice_cell, IsDry, IsMid}
-use Rattle.cpl_restart.specs.FastStep.{for_each}
-use Rattle.cpl_restart.specs.Stocks.{held, held_within, stocks_of, flying_to_ocean}
-use Rattle.cpl_restart.specs.Slow.{runoff_of, arrived, slow_cell, returned_at, for_each_place, to_ocean_number, slow_after}
-use Rattle.cpl_restart.specs.SlowLaws.{CanSlowAll}
+use Rattle.cpl_state.specs.declared.whole.Mid.{Mid}
+use Rattle.cpl_state.specs.States.{land_cells, ocean_cells, categories, of_cell, land_cell, ice_cell, IsDry, IsMid}
+use Rattle.cpl_state.specs.FastStep.{for_each}
+use Rattle.cpl_state.specs.Stocks.{held, held_within, stocks_of, flying_to_ocean}
+use Rattle.cpl_state.specs.Slow.{runoff_of, arrived, slow_cell, returned_at, for_each_place, to_ocean_number, slow_after}
+use Rattle.cpl_state.specs.SlowLaws.{CanSlowAll}
 use Rattle.cpl_diffusion.proofs.Sums.{sum_to, sum_to-above}
 use Rattle.cpl_laws.specs.Once.{IsNumbered}
 use Rattle.cpl_laws.proofs.Sums.{total_add, cells_same}

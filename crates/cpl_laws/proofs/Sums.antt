@@ -6,7 +6,7 @@ use Rattle.std.proofs.lemmas.Int.{ints}
 use Rattle.std.proofs.lemmas.Nat.{div-mul-add, mod-mul-add, div-add-mod'}
 use Rattle.std.proofs.Math.IntN.{*ℤ-zero, zero-*ℤ, suc_ℤ-*ℤ}
 use Rattle.std.proofs.lemmas.Bool.{cases_eq, eq-eqb, ne_eqb}
-use Rattle.cpl_restart.specs.Diffusion.{total_of}
+use Rattle.cpl_state.specs.Diffusion.{total_of}
 use Rattle.cpl_diffusion.proofs.Sums.{sum_to, sum_to-same, sum_to-none}
 pub use Rattle.cpl_diffusion.proofs.Sums.{total_range, sum_to-split}
 

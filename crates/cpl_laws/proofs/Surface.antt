@@ -11,12 +11,12 @@ use Rattle.cpl_fixed.specs.Amounts.{at}
 use Rattle.cpl_fixed.specs.declared.words.Quantity.{Quantity}
 use Rattle.cpl_fixed.specs.declared.words.Quantity.TheVariants.{Heat, Water, Salt}
 use Rattle.cpl_xgrid.specs.declared.grid.Grid.{Grid}
-use Rattle.cpl_restart.specs.declared.whole.Whole.{Whole}
-use Rattle.cpl_restart.specs.Numbers.{IsStored}
-use Rattle.cpl_restart.specs.States.{ocean_cells, of_cell, IsWhole, IsMid, IsOnOcean, HasNoFlights}
-use Rattle.cpl_restart.specs.Stocks.{held, held_within, stocks_of, flying_to_ice, flying_to_ocean}
-use Rattle.cpl_restart.specs.FastStep.{for_each}
-use Rattle.cpl_restart.specs.CouplingStep.{taken, no_flights}
+use Rattle.cpl_state.specs.declared.whole.Whole.{Whole}
+use Rattle.cpl_state.specs.Stored.{IsStored}
+use Rattle.cpl_state.specs.States.{ocean_cells, of_cell, IsWhole, IsMid, IsOnOcean, HasNoFlights}
+use Rattle.cpl_state.specs.Stocks.{held, held_within, stocks_of, flying_to_ice, flying_to_ocean}
+use Rattle.cpl_state.specs.FastStep.{for_each}
+use Rattle.cpl_state.specs.CouplingStep.{taken, no_flights}
 use Rattle.cpl_laws.proofs.Sums.{total_add}
 use Rattle.cpl_laws.proofs.Held.{read_cell}
 use Rattle.cpl_laws.proofs.SlowSums.{zeros_at, cells_none}

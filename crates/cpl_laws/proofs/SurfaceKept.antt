@@ -1,5 +1,5 @@
 -- The air, the land and the ice keep all in a coupling step: its fast steps and its slow part together.
-use Rattle.std.proofs.Common.{◌≡◌, ◌∙◌, refl, sym, ap, ℕ, ◌-◌, ◌<◌, arith, List}
+use Rattle.std.proofs.Common.{◌≡◌, ◌∙◌, refl, sym, ap, ℕ, ◌-◌, ◌<◌, ◌≤◌, arith, List}
 use Rattle.std.specs.Prelude.{ℤ, pos, ◌+ℤ◌, ◌-ℤ◌, ◌*ℤ◌, ◌≤ℤ◌, All}
 use Rattle.std.proofs.lemmas.Int.{ints}
 use Rattle.cpl_fixed.specs.Amounts.{at}
@@ -11,17 +11,17 @@ use Rattle.cpl_mosaic.specs.Mates.{MatesAgree}
 use Rattle.cpl_namelist.specs.declared.names.Names.{Names}
 use Rattle.cpl_xgrid.specs.declared.grid.Grid.{Grid}
 use Rattle.cpl_xgrid.specs.declared.parts.Surface.TheVariants.{Land, Ocean}
-use Rattle.cpl_restart.specs.declared.whole.Whole.{Whole}
-use Rattle.cpl_restart.specs.declared.whole.Mid.{Mid}
-use Rattle.cpl_restart.specs.Numbers.{IsStored}
-use Rattle.cpl_restart.specs.Stocks.{held, held_within, flying_to_ocean}
-use Rattle.cpl_restart.specs.Budget.{sun_of_strength}
-use Rattle.cpl_restart.specs.FastStep.{Before, heat_given, water_given, heat_to_land, water_to_land, heat_to_ice, water_to_ice}
-use Rattle.cpl_restart.specs.FastLaws.{CanStep, KeepsAll}
-use Rattle.cpl_restart.specs.Slow.{slow_after}
-use Rattle.cpl_restart.specs.SlowLaws.{CanSlowAll, KeepsSlow}
-use Rattle.cpl_restart.specs.SurfaceLaws.{CanCouple, KeepsSurface, IsSameSea, fast_before, sun_of_step}
-use Rattle.cpl_restart.specs.CouplingStep.{taken, month_of, after_fast, surface_after, step_entered, step_left}
+use Rattle.cpl_state.specs.declared.whole.Whole.{Whole}
+use Rattle.cpl_state.specs.declared.whole.Mid.{Mid}
+use Rattle.cpl_state.specs.Stored.{IsStored}
+use Rattle.cpl_state.specs.Stocks.{held, held_within, flying_to_ocean}
+use Rattle.cpl_state.specs.Budget.{sun_of_strength}
+use Rattle.cpl_state.specs.FastStep.{Before, heat_given, water_given, heat_to_land, water_to_land, heat_to_ice, water_to_ice}
+use Rattle.cpl_state.specs.FastLaws.{CanStep, KeepsAll}
+use Rattle.cpl_state.specs.Slow.{slow_after}
+use Rattle.cpl_state.specs.SlowLaws.{CanSlowAll, KeepsSlow}
+use Rattle.cpl_state.specs.SurfaceLaws.{CanCouple, KeepsSurface, IsAmid, IsSameSea, fast_before, fast_state, sun_of_step}
+use Rattle.cpl_state.specs.CouplingStep.{taken, month_of, after_fast, surface_after, step_entered, step_left}
 use Rattle.cpl_laws.specs.Once.{IsNumbered}
 use Rattle.cpl_laws.proofs.Groups.{total_natural}
 use Rattle.cpl_laws.proofs.Flows.{part_natural_of, strength_least}
@@ -29,7 +29,7 @@ use Rattle.cpl_laws.proofs.Held.{flights_to_ocean}
 use Rattle.cpl_laws.proofs.FastSums.{given_heat, given_water, land_heat_taken, land_water_taken, ice_heat_taken, ice_water_taken}
 use Rattle.cpl_laws.proofs.SlowKept.{keeps_slow}
 use Rattle.cpl_laws.proofs.Months.{month_range}
-use Rattle.cpl_laws.proofs.FastRun.{IsAfter, is_after, can_step, keeps_step, tallies_agree}
+use Rattle.cpl_laws.proofs.FastRun.{IsAfter, is_after, can_step, keeps_step, tallies_agree, times_more}
 use Rattle.cpl_laws.proofs.Surface.{is_taken, none_flies, held_taken}
 
 -- the sun in any strength
@@ -97,8 +97,30 @@ module _ (grid : Grid) (names : Names) (whole : Whole) (is : IsNumbered grid) (m
 
   -- THE FAST STEPS
 
+  some_fast : (i : ℕ) → i ≤ names.fast → IsAfter grid names month (taken grid whole) names.fast is can.air mates can.are_names.rates (month_range names whole can.are_names) (is_taken grid whole can.is_whole) (none_flies grid whole can.is_whole) i
+  some_fast i l = is_after grid names month (taken grid whole) names.fast is can.air mates can.are_names.rates (month_range names whole can.are_names) (is_taken grid whole can.is_whole) (none_flies grid whole can.is_whole) start_heat start_water start_salt sun_natural i l
+
   all_fast : IsAfter grid names month (taken grid whole) names.fast is can.air mates can.are_names.rates (month_range names whole can.are_names) (is_taken grid whole can.is_whole) (none_flies grid whole can.is_whole) names.fast
-  all_fast = is_after grid names month (taken grid whole) names.fast is can.air mates can.are_names.rates (month_range names whole can.are_names) (is_taken grid whole can.is_whole) (none_flies grid whole can.is_whole) start_heat start_water start_salt sun_natural names.fast (omega arith)
+  all_fast = some_fast names.fast (omega arith)
+
+  -- no more is held on the way than there was, with the sun
+  amid : (i : ℕ) → i ≤ names.fast → IsAmid grid names whole (fast_state grid names whole i)
+  amid i l =
+      let was = some_fast i l in
+      let heat = held_taken grid whole can.is_whole Heat in
+      let heat_flies = flights_to_ocean grid whole can.is_whole.stored Heat in
+      let water = held_taken grid whole can.is_whole Water in
+      let water_flies = flights_to_ocean grid whole can.is_whole.stored Water in
+      let salt = held_taken grid whole can.is_whole Salt in
+      let salt_flies = flights_to_ocean grid whole can.is_whole.stored Salt in
+      let more = times_more i names.fast sun sun_natural l in
+      let all = all_sun in
+      record {
+        lawful = was.is_mid;
+        heat = omega (arith, ints, was.heat, was.entering.1, was.leaving, heat, heat_flies, more, all);
+        water = omega (arith, ints, was.water, water, water_flies);
+        salt = omega (arith, ints, was.salt, salt, salt_flies);
+      }
 
   can_fast : (i : ℕ) → i < names.fast → CanStep (fast_before grid names whole i)
   can_fast i l = can_step grid names month (taken grid whole) names.fast is can.air mates can.are_names.rates (month_range names whole can.are_names) (is_taken grid whole can.is_whole) (none_flies grid whole can.is_whole) start_heat start_water start_salt sun_natural i l
@@ -181,6 +203,7 @@ module _ (grid : Grid) (names : Names) (whole : Whole) (is : IsNumbered grid) (m
         start = is_taken grid whole can.is_whole;
         can_fast = can_fast;
         fast = fast;
+        amid = amid;
         can_slow = can_slow;
         slow = slow;
         land_heat = agree (λ s. heat_given s Land) heat_to_land (λ n l. given_heat (fast_before grid names whole n) is Land ∙ sym (land_heat_taken (fast_before grid names whole n) is));

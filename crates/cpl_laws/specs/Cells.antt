@@ -8,9 +8,9 @@ use Rattle.cpl_mosaic.specs.Contacts.{cells_of}
 use Rattle.cpl_xgrid.specs.declared.grid.Grid.{Grid}
 use Rattle.cpl_xgrid.specs.declared.parts.Surface.{Surface}
 use Rattle.cpl_xgrid.specs.declared.parts.Surface.TheVariants.{Land, Ocean}
-use Rattle.cpl_restart.specs.declared.whole.Whole.{Whole}
-use Rattle.cpl_restart.specs.States.{air_cells}
-use Rattle.cpl_restart.specs.Elements.{tiles_of, refs_of_air_cell, element_count, element_area, over_all, part_area, share_at}
+use Rattle.cpl_state.specs.declared.whole.Whole.{Whole}
+use Rattle.cpl_state.specs.States.{air_cells}
+use Rattle.cpl_state.specs.Elements.{tiles_of, refs_of_air_cell, element_count, element_area, over_all, part_area, share_at}
 
 -- the mesh of the land, or of the ocean
 abbrev pub mesh_of : Grid → Surface → Mesh

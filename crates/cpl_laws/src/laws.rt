@@ -1,16 +1,16 @@
 // The laws.
 ghost use Rattle.cpl_mosaic.specs.Mates.{MatesAgree};
 ghost use Rattle.cpl_xgrid.specs.declared.grid.Grid.{Grid};
-ghost use Rattle.cpl_restart.specs.declared.whole.Whole.{Whole};
-ghost use Rattle.cpl_restart.specs.Diffusion.{IsAirMesh};
-ghost use Rattle.cpl_restart.specs.States.{IsWhole};
-ghost use Rattle.cpl_restart.specs.FastStep.{Before};
-ghost use Rattle.cpl_restart.specs.FastLaws.{CanStep, KeepsAll};
+ghost use Rattle.cpl_state.specs.declared.whole.Whole.{Whole};
+ghost use Rattle.cpl_state.specs.Diffusion.{IsAirMesh};
+ghost use Rattle.cpl_state.specs.States.{IsWhole};
+ghost use Rattle.cpl_state.specs.FastStep.{Before};
+ghost use Rattle.cpl_state.specs.FastLaws.{CanStep, KeepsAll};
 ghost use Rattle.cpl_fixed.specs.declared.rates.Rates.{Rates};
-ghost use Rattle.cpl_restart.specs.declared.whole.Mid.{Mid};
-ghost use Rattle.cpl_restart.specs.SlowLaws.{CanSlowAll, KeepsSlow};
+ghost use Rattle.cpl_state.specs.declared.whole.Mid.{Mid};
+ghost use Rattle.cpl_state.specs.SlowLaws.{CanSlowAll, KeepsSlow};
 ghost use Rattle.cpl_namelist.specs.declared.names.Names.{Names};
-ghost use Rattle.cpl_restart.specs.SurfaceLaws.{CanCouple, KeepsSurface};
+ghost use Rattle.cpl_state.specs.SurfaceLaws.{CanCouple, KeepsSurface};
 ghost use Rattle.cpl_laws.specs.Once.{IsNumbered, CountedOnce};
 ghost use Rattle.cpl_laws.specs.Cells.{ElementsAgree};
 

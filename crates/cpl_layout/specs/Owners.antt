@@ -1,6 +1,8 @@
 -- Which piece a cell lies in, and where in it.
 use Rattle.std.specs.Prelude.{◌≡◌, ℕ, ◌+◌, ◌-◌, ◌*◌, ◌^◌, ◌<◌, ◌≤◌, List}
 use Rattle.cpl_mosaic.specs.declared.parts.CellId.{CellId}
+use Rattle.cpl_mosaic.specs.declared.parts.Side.{Side}
+use Rattle.cpl_mosaic.specs.declared.parts.Side.TheVariants.{W, E, S, N}
 use Rattle.cpl_mosaic.specs.declared.parts.Tile.{Tile}
 use Rattle.cpl_mosaic.specs.Sides.{tile_at, IsCellOf}
 use Rattle.cpl_layout.specs.declared.piece.Piece.{Piece}
@@ -36,6 +38,13 @@ cell_in piece place = record { tile = piece.tile; i = piece.i0 + place.0; j = pi
 -- the column and the row of a cell in a piece
 abbrev pub place_in : Piece → CellId → ℕ × ℕ
 place_in piece cell = (cell.i - piece.i0, cell.j - piece.j0)
+
+-- the place of the k-th cell along an edge of a piece: by row along W and E, by column along S and N
+abbrev pub edge_place : Piece → Side → ℕ → ℕ × ℕ
+edge_place piece W k = (0, k)
+edge_place piece E k = (piece.nx - 1, k)
+edge_place piece S k = (k, 0)
+edge_place piece N k = (k, piece.ny - 1)
 
 -- a column and a row of a piece
 pub record IsPlaceOf (piece : Piece) (place : ℕ × ℕ) : Type 0 where

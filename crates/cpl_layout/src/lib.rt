@@ -3,8 +3,10 @@
 
 mod extents;
 mod layout;
+mod own;
 mod piece;
 
 pub use extents::extent;
 pub use layout::Layout;
+pub use own::own_law;
 pub use piece::Piece;

@@ -16,10 +16,10 @@ use Rattle.cpl_fixed.specs.declared.words.Quantity.{Quantity}
 use Rattle.cpl_fixed.specs.declared.words.Quantity.TheVariants.{Heat, Water, Salt}
 use Rattle.cpl_fixed.proofs.Parts.{part_pos}
 use Rattle.cpl_xgrid.specs.Lists.{IsArea}
-use Rattle.cpl_restart.specs.Numbers.{IsStored}
-use Rattle.cpl_restart.specs.States.{ocean_cells, flight_to_ice, flight_to_ocean}
-use Rattle.cpl_restart.specs.Stocks.{stocks_of, quantity_of, whole_flight, flying_to_ice, flying_to_ocean}
-use Rattle.cpl_restart.specs.Budget.{budget_of, budget_fault, sun_to_come}
+use Rattle.cpl_state.specs.Stored.{IsStored}
+use Rattle.cpl_state.specs.States.{ocean_cells, flight_to_ice, flight_to_ocean}
+use Rattle.cpl_state.specs.Stocks.{stocks_of, quantity_of, whole_flight, flying_to_ice, flying_to_ocean}
+use Rattle.cpl_state.specs.Budget.{budget_of, budget_fault, sun_to_come}
 use Rattle.cpl_plan.specs.declared.error.PlanError.TheVariants as fault
 use Rattle.cpl_plan.specs.Faults.{or_else, layouts_fault, date_fault, over_budget, plan_fault}
 use Rattle.cpl_plan.proofs.Dates.{date_fits}

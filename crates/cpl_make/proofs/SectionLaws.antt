@@ -14,8 +14,8 @@ use Rattle.std.proofs.lemmas.List.FromFn.{length-map-range_with_len, get_or-map-
 use Rattle.cpl_fixed.specs.Amounts.{amount, at}
 use Rattle.cpl_fixed.specs.declared.limits.TheConstants.{MOST_AREA, PARTS}
 use Rattle.cpl_xgrid.specs.Lists.{IsArea}
-use Rattle.cpl_restart.specs.Numbers.{IsStored}
-use Rattle.cpl_restart.specs.States.{of_cell}
+use Rattle.cpl_state.specs.Stored.{IsStored}
+use Rattle.cpl_state.specs.States.{of_cell}
 use Rattle.cpl_made_grid.proofs.Ranges.{All-range}
 use Rattle.cpl_made_grid.specs.Stream.{drawn}
 use Rattle.cpl_made_grid.specs.declared.stream.Purpose.TheVariants as purpose

@@ -10,9 +10,9 @@ use Rattle.cpl_fixed.specs.declared.limits.TheConstants.{PARTS}
 use Rattle.cpl_mosaic.specs.Contacts.{cells_of}
 use Rattle.cpl_faces.specs.Faces.{faces_of}
 use Rattle.cpl_xgrid.specs.declared.grid.Grid.{Grid}
-use Rattle.cpl_restart.specs.declared.whole.Whole.{Whole}
-use Rattle.cpl_restart.specs.Numbers.{IsStored}
-use Rattle.cpl_restart.specs.States.{HasLengths, AreStored, IsWhole, IsFaceNumber, HasNone, HasNoneInLayers}
+use Rattle.cpl_state.specs.declared.whole.Whole.{Whole}
+use Rattle.cpl_state.specs.Stored.{IsStored}
+use Rattle.cpl_state.specs.States.{HasLengths, AreStored, IsWhole, IsFaceNumber, HasNone, HasNoneInLayers}
 use Rattle.cpl_made_grid.specs.declared.recipe.Recipe.{Recipe}
 use Rattle.cpl_made_grid.specs.Shapes.{sphere_tiles, ocean_tiles, ocean_mosaic, air_count, ocean_count}
 use Rattle.cpl_made_grid.specs.Shares.{IsSized}

@@ -9,7 +9,7 @@ use Rattle.cpl_faces.proofs.Listed.{are_faces}
 use Rattle.cpl_restart.specs.Numbers.{number_bytes, section_bytes, numbers_bytes}
 use Rattle.cpl_restart.specs.RestartBytes.{second_mark, sections_of}
 use Rattle.cpl_restart.specs.Sections.{wrapped_sum}
-use Rattle.cpl_restart.specs.declared.whole.Whole.{Whole}
+use Rattle.cpl_state.specs.declared.whole.Whole.{Whole}
 use Rattle.cpl_restart.proofs.Words.{length-number_bytes, length-numbers_bytes}
 use Rattle.cpl_made_grid.specs.declared.recipe.Recipe.{Recipe}
 use Rattle.cpl_made_grid.specs.Shapes.{ocean_mosaic}

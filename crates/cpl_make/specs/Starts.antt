@@ -1,7 +1,7 @@
 -- Made starts.
 use Rattle.std.specs.Prelude.{ℕ, ◌*◌, List, length, replicate, ℤ, pos}
 use Rattle.cpl_faces.specs.Faces.{faces_of}
-use Rattle.cpl_restart.specs.declared.whole.Whole.{Whole}
+use Rattle.cpl_state.specs.declared.whole.Whole.{Whole}
 use Rattle.cpl_made_grid.specs.declared.recipe.Recipe.{Recipe}
 use Rattle.cpl_make.specs.declared.sections.Section.TheVariants as section
 use Rattle.cpl_made_grid.specs.Shapes.{ocean_count, ocean_mosaic}

@@ -1,6 +1,6 @@
 // Made starts.
 ghost use Rattle.std.specs.Prelude.{◌≡◌, IfOk};
-ghost use Rattle.cpl_restart.specs.States.{IsWhole};
+ghost use Rattle.cpl_state.specs.States.{IsWhole};
 ghost use Rattle.cpl_made_grid.specs.Shares.{IsSized};
 ghost use Rattle.cpl_made_grid.specs.Grids.{made_grid};
 ghost use Rattle.cpl_make.specs.Starts.{made_start, zeros};
@@ -9,7 +9,7 @@ use crate::sections::{Section, made_parts, made_section};
 use cpl_faces::faces;
 use cpl_fixed::List;
 use cpl_made_grid::Recipe;
-use cpl_restart::Whole;
+use cpl_state::Whole;
 use cpl_xgrid::Grid;
 use std::alloc::{AllocError, Global};
 

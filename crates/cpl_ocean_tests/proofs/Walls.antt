@@ -5,8 +5,8 @@ use Rattle.std.proofs.lemmas.Int.{ints}
 use Rattle.std.proofs.lemmas.List.{get_or-replicate, length-replicate}
 use Rattle.cpl_fixed.specs.Amounts.{amount, at}
 use Rattle.cpl_mosaic.specs.declared.mosaic.Mesh.{Mesh}
-use Rattle.cpl_restart.specs.Diffusion.{cell_count}
-use Rattle.cpl_restart.specs.Transport.{face_at, face_count, is_open, is_wet}
+use Rattle.cpl_state.specs.Diffusion.{cell_count}
+use Rattle.cpl_state.specs.Transport.{face_at, face_count, is_open, is_wet}
 use Rattle.cpl_sea.specs.Seas.{AreNumbers, IsOcean}
 use Rattle.cpl_sea.proofs.Looked.{face_below}
 use Rattle.cpl_sea.proofs.Rows.{place_below}

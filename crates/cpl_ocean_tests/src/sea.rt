@@ -1,9 +1,9 @@
 // Runs of an ocean over whole lists, which the tests share.
 ghost use Rattle.std.specs.Prelude.{◌≡◌, ◌⊎◌, ◌*◌, ◌≤◌, pos, length, All, IfOk};
 ghost use Rattle.std.specs.Bool.{OnTrue};
-ghost use Rattle.cpl_restart.specs.CouplingStep.{sea_of};
-ghost use Rattle.cpl_restart.specs.Diffusion.{AreAmounts};
-ghost use Rattle.cpl_restart.specs.States.{layers, ocean_cells};
+ghost use Rattle.cpl_state.specs.CouplingStep.{sea_of};
+ghost use Rattle.cpl_state.specs.Diffusion.{AreAmounts};
+ghost use Rattle.cpl_state.specs.States.{layers, ocean_cells};
 ghost use Rattle.cpl_sea.specs.Rooms.{IsSeaRoom};
 ghost use Rattle.cpl_sea.specs.Seas.{AreNumbers, IsSea};
 ghost use Rattle.cpl_transport.specs.Heights.{IsFaceNumber};
@@ -13,9 +13,9 @@ ghost use Rattle.cpl_ocean_tests.specs.Small.{IsWet};
 use crate::shapes::{Shape, grid};
 use cpl_faces::faces;
 use cpl_fixed::List;
-use cpl_restart::Whole;
 use cpl_samples::{are_amounts, example_rates};
 use cpl_sea::{SeaRoom, sea_law};
+use cpl_state::Whole;
 use cpl_xgrid::Grid;
 use std::alloc::{AllocError, Global};
 

@@ -8,7 +8,7 @@ use Rattle.std.proofs.Math.Nat.{mul-le-mul_left}
 use Rattle.std.proofs.Math.IntN.{pos-*ℤ-pos}
 use Rattle.cpl_namelist.specs.declared.names.Names.{Names}
 use Rattle.cpl_namelist.specs.Civil.{Fits, civil_after}
-use Rattle.cpl_restart.specs.declared.whole.Whole.{Whole}
+use Rattle.cpl_state.specs.declared.whole.Whole.{Whole}
 use Rattle.cpl_plan.specs.declared.error.PlanError.{PlanError}
 use Rattle.cpl_plan.specs.declared.error.PlanError.TheVariants as fault
 use Rattle.cpl_plan.specs.Faults.{date_fault, last_second}

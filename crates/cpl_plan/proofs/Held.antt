@@ -4,7 +4,7 @@ use Rattle.std.specs.Prelude.{ℤ, pos, negsuc, ◌+ℤ◌, ◌*ℤ◌, ◌≤�
 use Rattle.std.specs.Int.{w128}
 use Rattle.std.proofs.lemmas.Int.{ints}
 use Rattle.std.proofs.Math.IntN.{pos-*ℤ-pos}
-use Rattle.cpl_restart.specs.Stocks.{Stocks as StocksOf, sum_of_stocks}
+use Rattle.cpl_state.specs.Stocks.{Stocks as StocksOf, sum_of_stocks}
 use Rattle.cpl_plan.specs.declared.stocks.Stocks.{Stocks}
 use Rattle.cpl_plan.specs.Sums.{AreSmall, AreStocks, held_of}
 use Rattle.cpl_plan.proofs.Few.{IsAdded, added, as_word, word}

@@ -4,23 +4,25 @@ use Rattle.std.specs.Prelude.{ℤ, pos, ◌≤ℤ◌, int_lt, Result}
 use Rattle.std.specs.Option.{option_map}
 use Rattle.std.proofs.lemmas.Int.{ints}
 use Rattle.cpl_fixed.specs.declared.limits.TheConstants.{MOST_TOTAL}
+use Rattle.cpl_fixed.specs.declared.words.Component.{Component}
 use Rattle.cpl_fixed.specs.declared.words.Component.TheVariants.{Atmos, Land, Ice, Ocean}
 use Rattle.cpl_fixed.specs.declared.words.Quantity.{Quantity}
 use Rattle.cpl_fixed.specs.declared.words.Quantity.TheVariants.{Heat, Water, Salt}
-use Rattle.cpl_layout.specs.Layouts.{layout_fault}
+use Rattle.cpl_layout.specs.Layouts.{IsLayout, layout_fault}
 use Rattle.cpl_namelist.specs.declared.names.Names.{Names}
 use Rattle.cpl_namelist.specs.Ranges.{AreNames}
 use Rattle.cpl_xgrid.specs.declared.grid.Grid.{Grid}
 use Rattle.cpl_xgrid.specs.Grids.{IsGrid}
 use Rattle.cpl_xgrid.specs.Rules.{tiles_of}
-use Rattle.cpl_restart.specs.declared.whole.Whole.{Whole}
-use Rattle.cpl_restart.specs.Budget.{IsWithinBudget, budget_fault, budget_of, if_above}
-use Rattle.cpl_restart.specs.Diffusion.{IsAirMesh}
-use Rattle.cpl_restart.specs.States.{IsWhole}
+use Rattle.cpl_state.specs.declared.whole.Whole.{Whole}
+use Rattle.cpl_state.specs.Budget.{IsWithinBudget, budget_fault, budget_of, if_above}
+use Rattle.cpl_state.specs.Diffusion.{IsAirMesh}
+use Rattle.cpl_state.specs.States.{IsWhole}
+use Rattle.cpl_wires.specs.Settings.{Setting, layout_of}
 use Rattle.cpl_plan.specs.declared.error.PlanError.{PlanError}
 use Rattle.cpl_plan.specs.declared.error.PlanError.TheVariants as fault
 use Rattle.cpl_plan.specs.Faults.{Judges, component_fault, date_fault, layout_at, layouts_fault, or_else, over_budget}
-use Rattle.cpl_plan.specs.Plans.{IsPlan}
+use Rattle.cpl_plan.specs.Plans.{HasLayouts, IsPlan}
 use Rattle.cpl_plan.proofs.Dates.{date_none}
 
 -- NONE OF SEVERAL
@@ -78,12 +80,22 @@ pub judged_alike : (h w s heat water salt : ℤ) (r : Result (Unit {0}) PlanErro
     → Judges (option_map over_budget (three h w s)) r → Judges (option_map over_budget (three heat water salt)) r
 judged_alike h w s heat water salt r e f g judges = subst (λ (found : Option (Quantity × ℤ)). Judges (option_map over_budget found) r) (λ i. three (e i) (f i) (g i)) judges
 
+-- LAYOUTS
+
+pub have_layouts : (grid : Grid) (names : Names) → let setting : Setting = record { grid = grid; names = names } in
+    IsLayout (layout_of setting Atmos) → IsLayout (layout_of setting Land) → IsLayout (layout_of setting Ice) → IsLayout (layout_of setting Ocean)
+    → (component : Component) → IsLayout (layout_of setting component)
+have_layouts grid names air land ice ocean Atmos = air
+have_layouts grid names air land ice ocean Land = land
+have_layouts grid names air land ice ocean Ice = ice
+have_layouts grid names air land ice ocean Ocean = ocean
+
 -- ALL
 
 pub is_plan : (grid : Grid) (names : Names) (start : Whole) → IsGrid grid → IsAirMesh grid.air → AreNames names → IsWhole grid start
-    → layouts_fault grid names ≡ None → date_fault names start ≡ None → option_map over_budget (budget_fault grid names start) ≡ None
+    → HasLayouts grid names → layouts_fault grid names ≡ None → date_fault names start ≡ None → option_map over_budget (budget_fault grid names start) ≡ None
     → IsPlan (record { grid = grid; names = names; start = start })
-is_plan grid names start grid_is air_is names_are start_is layouts date budget =
+is_plan grid names start grid_is air_is names_are start_is fit layouts date budget =
     let air = component_fault Atmos (tiles_of grid.air) (layout_at names 0) in
     let land = component_fault Land (tiles_of grid.land) (layout_at names 1) in
     let ice = component_fault Ice (tiles_of grid.ocean) (layout_at names 2) in
@@ -100,6 +112,7 @@ is_plan grid names start grid_is air_is names_are start_is layouts date budget =
       land = unmapped (fault.Layout Land) (layout_fault (tiles_of grid.land) (layout_at names 1).0 (layout_at names 1).1) (none_first land (or_else ice ocean) after_air);
       ice = unmapped (fault.Layout Ice) (layout_fault (tiles_of grid.ocean) (layout_at names 2).0 (layout_at names 2).1) (none_first ice ocean after_land);
       ocean = unmapped (fault.Layout Ocean) (layout_fault (tiles_of grid.ocean) (layout_at names 3).0 (layout_at names 3).1) (none_later ice ocean after_land);
+      layouts = fit;
       time = in_time.0;
       date = in_time.1;
       budget = all_within names grid start (unmapped over_budget (budget_fault grid names start) budget);

@@ -4,3 +4,6 @@ pub mod Few
 pub mod Places
 pub mod Held
 pub mod Lawful
+pub mod PieceShapes
+pub mod Lengths
+pub mod Gathered

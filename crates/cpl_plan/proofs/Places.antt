@@ -6,8 +6,8 @@ use Rattle.std.specs.Int.{w128}
 use Rattle.std.proofs.lemmas.Int.{ints}
 use Rattle.std.proofs.lemmas.List.{get_or-set_same, get_or-set_other, length-set}
 use Rattle.cpl_fixed.specs.Totals.{total_of}
-use Rattle.cpl_restart.specs.FastStep.{for_each}
-use Rattle.cpl_restart.specs.States.{of_cell}
+use Rattle.cpl_state.specs.FastStep.{for_each}
+use Rattle.cpl_state.specs.States.{of_cell}
 use Rattle.cpl_laws.proofs.Sums.{total_add}
 use Rattle.cpl_plan.specs.Sums.{AreTotals, IsSmall, sum_at}
 

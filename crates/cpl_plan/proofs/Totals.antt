@@ -11,8 +11,8 @@ use Rattle.cpl_fixed.specs.Ranges.{IsFromℤ}
 use Rattle.cpl_fixed.specs.Shares.{part_of}
 use Rattle.cpl_fixed.specs.Totals.{total_of}
 use Rattle.cpl_fixed.proofs.Parts.{part_pos}
-use Rattle.cpl_restart.specs.FastStep.{for_each}
-use Rattle.cpl_restart.specs.Budget.{greatest}
+use Rattle.cpl_state.specs.FastStep.{for_each}
+use Rattle.cpl_state.specs.Budget.{greatest}
 
 -- the total of what is taken of each, one more
 pub total_map_more : {X : Type 0} (f : X → ℤ) (xs : List X) (k : ℕ) (d : X) → k < length xs → total_of (map f (take (k + 1) xs)) ≡ total_of (map f (take k xs)) +ℤ f (get_or xs k d)

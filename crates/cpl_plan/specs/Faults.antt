@@ -11,8 +11,8 @@ use Rattle.cpl_namelist.specs.declared.names.Names.{Names}
 use Rattle.cpl_namelist.specs.Civil.{civil_after}
 use Rattle.cpl_xgrid.specs.declared.grid.Grid.{Grid}
 use Rattle.cpl_xgrid.specs.Rules.{tiles_of}
-use Rattle.cpl_restart.specs.declared.whole.Whole.{Whole}
-use Rattle.cpl_restart.specs.Budget.{budget_fault}
+use Rattle.cpl_state.specs.declared.whole.Whole.{Whole}
+use Rattle.cpl_state.specs.Budget.{budget_fault}
 use Rattle.cpl_plan.specs.declared.error.PlanError.{PlanError}
 use Rattle.cpl_plan.specs.declared.error.PlanError.TheVariants as fault
 

@@ -1,3 +1,5 @@
 pub mod Faults
 pub mod Sums
 pub mod Plans
+pub mod PieceSums
+pub mod Values

@@ -5,9 +5,9 @@ ghost use Rattle.cpl_fixed.specs.Ranges.{IsFromℤ};
 ghost use Rattle.cpl_fixed.specs.declared.words.Quantity.TheVariants.{Heat, Water, Salt};
 ghost use Rattle.cpl_namelist.specs.Ranges.{AreNames};
 ghost use Rattle.cpl_xgrid.specs.Grids.{IsGrid};
-ghost use Rattle.cpl_restart.specs.Budget.{budget_fault, budget_of, greatest, if_above, sun_of_strength, sun_to_come};
-ghost use Rattle.cpl_restart.specs.States.{IsWhole};
-ghost use Rattle.cpl_restart.specs.Stocks.{sum_of_stocks};
+ghost use Rattle.cpl_state.specs.Budget.{budget_fault, budget_of, greatest, if_above, sun_of_strength, sun_to_come};
+ghost use Rattle.cpl_state.specs.States.{IsWhole};
+ghost use Rattle.cpl_state.specs.Stocks.{sum_of_stocks};
 ghost use Rattle.cpl_plan.specs.Faults.{Judges, over_budget};
 ghost use Rattle.cpl_plan.specs.Sums.{AreFew, AreSmall, held_of};
 
@@ -15,7 +15,7 @@ use crate::error::PlanError;
 use crate::stocks::{Stocks, few_numbers, holdings_of};
 use cpl_fixed::{MOST_TOTAL, Quantity};
 use cpl_namelist::Names;
-use cpl_restart::Whole;
+use cpl_state::Whole;
 use cpl_xgrid::Grid;
 
 // The greatest of numbers that aren't negative.

@@ -1,14 +1,14 @@
 // A plan.
 ghost use Rattle.std.specs.Prelude.{◌≡◌, ◌≤◌, None, IfOk, OnOk, IfErr, pos, ◌≤ℤ◌};
 ghost use Rattle.cpl_fixed.specs.Ranges.{IsFrom};
-ghost use Rattle.cpl_layout.specs.Layouts.{layout_fault};
+ghost use Rattle.cpl_layout.specs.Layouts.{IsLayout, layout_fault};
 ghost use Rattle.cpl_namelist.specs.Ranges.{AreNames};
 ghost use Rattle.cpl_xgrid.specs.Grids.{IsGrid};
-ghost use Rattle.cpl_restart.specs.Diffusion.{IsAirMesh};
-ghost use Rattle.cpl_restart.specs.Numbers.{IsStored};
-ghost use Rattle.cpl_restart.specs.States.{IsWhole};
+ghost use Rattle.cpl_state.specs.Diffusion.{IsAirMesh};
+ghost use Rattle.cpl_state.specs.Stored.{IsStored};
+ghost use Rattle.cpl_state.specs.States.{IsWhole};
 ghost use Rattle.cpl_plan.specs.Faults.{IsFirstFault, Judges, component_fault, date_fault, layouts_fault, plan_fault};
-ghost use Rattle.cpl_plan.specs.Plans.{IsPlan};
+ghost use Rattle.cpl_plan.specs.Plans.{HasLayouts, IsPlan};
 
 use crate::budget::judge_budget;
 use crate::error::PlanError;
@@ -16,7 +16,7 @@ use cpl_fixed::{Component, LayoutError};
 use cpl_layout::Layout;
 use cpl_mosaic::Mosaic;
 use cpl_namelist::Names;
-use cpl_restart::Whole;
+use cpl_state::Whole;
 use cpl_xgrid::Grid;
 use std::alloc::Global;
 use std::marker::Model;
@@ -51,11 +51,16 @@ fn judge_layout(
 ) -> Result<(), PlanError>
     requires columns { IsFrom 1 64 layout.0 }
     requires rows { IsFrom 1 64 layout.1 }
-    ensures { Judges (component_fault component mosaic.now.tiles layout) result }
+    ensures fault { Judges (component_fault component mosaic.now.tiles layout) result }
+    ensures fits { OnOk result (IsLayout (record { tiles = mosaic.now.tiles; px = layout.0; py = layout.1 })) }
 {
     let (px, py) = layout;
     match Layout::new(alloc, mosaic, px, py) {
-        Ok(_) => Ok(()),
+        Ok(cut) => {
+            // The contract of `pieces` has the rules of a layout.
+            let _pieces = cut.pieces();
+            Ok(())
+        }
         Err(LayoutError::Memory) => Err(PlanError::Memory),
         Err(fault) => Err(PlanError::Layout(component, fault)),
     }
@@ -64,13 +69,15 @@ fn judge_layout(
 // Whether the layouts of all components fit. The ice has the ocean's mosaic.
 fn judge_layouts(alloc: Global, grid: &Grid, names: &Names) -> Result<(), PlanError>
     requires { AreNames names.now }
-    ensures { Judges (layouts_fault grid.now names.now) result }
+    ensures fault { Judges (layouts_fault grid.now names.now) result }
+    ensures fits { OnOk result (HasLayouts grid.now names.now) }
 {
     let [air, land, ice, ocean] = names.layouts;
     judge_layout(alloc, Component::Atmos, &grid.air.mosaic, air)?;
     judge_layout(alloc, Component::Land, &grid.land.mosaic, land)?;
     judge_layout(alloc, Component::Ice, &grid.ocean.mosaic, ice)?;
-    judge_layout(alloc, Component::Ocean, &grid.ocean.mosaic, ocean)
+    judge_layout(alloc, Component::Ocean, &grid.ocean.mosaic, ocean)?;
+    Ok(())
 }
 
 // Whether the run ends in year 9999 at the latest.

@@ -2,10 +2,10 @@
 ghost use Rattle.std.specs.Prelude.{◌≡◌, ◌+◌, ◌≤◌, ◌<◌, ◌*◌, length};
 ghost use Rattle.cpl_fixed.specs.Totals.{total_of};
 ghost use Rattle.cpl_xgrid.specs.Grids.{IsGrid};
-ghost use Rattle.cpl_restart.specs.States.{IsWhole};
+ghost use Rattle.cpl_state.specs.States.{IsWhole};
 ghost use Rattle.cpl_plan.specs.Sums.{AreAdded, AreFew, AreHoldings, AreTotals, HasFew, HasRoom, IsSmall};
 
-use cpl_restart::Whole;
+use cpl_state::Whole;
 use cpl_xgrid::Grid;
 
 /// What the parts of the model hold of a quantity, and what flies between ice and ocean. The sums are exact: they may pass 64 bits.

@@ -5,12 +5,12 @@ use Rattle.std.proofs.lemmas.Int.{ints}
 use Rattle.std.proofs.Math.IntN.{zero-*ℤ}
 use Rattle.cpl_namelist.specs.declared.names.Names.{Names}
 use Rattle.cpl_namelist.specs.Civil.{Fits, civil_after}
-use Rattle.cpl_restart.specs.declared.whole.Whole.{Whole}
-use Rattle.cpl_restart.specs.CouplingStep.{month_of}
+use Rattle.cpl_state.specs.declared.whole.Whole.{Whole}
+use Rattle.cpl_state.specs.CouplingStep.{month_of}
 use Rattle.cpl_laws.proofs.FastRun.{times_more}
 use Rattle.cpl_plan.specs.Faults.{last_second}
 use Rattle.cpl_plan.specs.Plans.{PlanParts, IsPlan}
-use Rattle.cpl_couple.proofs.Dates.{abs_more, fits_before}
+use Rattle.cpl_whole.proofs.Dates.{abs_more, fits_before}
 
 module _ (plan : PlanParts) (is : IsPlan plan) where
   -- the run ends no earlier than it starts

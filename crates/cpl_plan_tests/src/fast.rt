@@ -1,9 +1,9 @@
 // A fast step of a column, after the ice took the flight to it.
 ghost use Rattle.std.specs.Prelude.{◌≡◌, IfOk, OnOk, Ok, length};
-ghost use Rattle.cpl_restart.specs.CouplingStep.{before, month_of, taken};
-ghost use Rattle.cpl_restart.specs.FastLaws.{CanStep};
+ghost use Rattle.cpl_state.specs.CouplingStep.{before, month_of, taken};
+ghost use Rattle.cpl_state.specs.FastLaws.{CanStep};
 ghost use Rattle.cpl_restart.specs.RestartBytes.{whole_of};
-ghost use Rattle.cpl_restart.specs.States.{IsWhole};
+ghost use Rattle.cpl_state.specs.States.{IsWhole};
 ghost use Rattle.cpl_slow.specs.Rooms.{CanTake};
 ghost use Rattle.cpl_xgrid.specs.Grids.{IsGrid};
 
@@ -11,8 +11,8 @@ use crate::parts::{Start, restart};
 use crate::step::{column_plan, go, read};
 use cpl_fixed::List;
 use cpl_plan::Plan;
-use cpl_restart::{Mid, Whole};
-use cpl_slow::{SlowRoom, take_flights};
+use cpl_slow::take_flights;
+use cpl_state::{Mid, Whole};
 use cpl_whole::{FastTally, fast_step};
 use cpl_xgrid::Grid;
 use std::alloc::{AllocError, Global};
@@ -49,9 +49,8 @@ fn take(alloc: Global, grid: &Grid, mid: &mut Mid) -> Result<(), AllocError>
     requires room { CanTake grid.now mid.old }
     ensures { OnOk result (mid.new ≡ taken grid.now mid.old.whole) }
 {
-    let mut room = SlowRoom::new(alloc, grid)?;
     let mut flight = vec![in alloc; 0; 3 * grid.ocean.mosaic.cells() as usize]?;
-    take_flights(grid, mid, &mut flight, &mut room);
+    take_flights(grid, mid, &mut flight);
     Ok(())
 }
 

@@ -1,16 +1,15 @@
 // A world of one column, and its runs.
-ghost use Rattle.std.specs.Prelude.{All, IfOk};
-ghost use Rattle.std.specs.Bool.{OnTrue};
+ghost use Rattle.std.specs.Prelude.{IfOk};
 ghost use Rattle.cpl_namelist.specs.Ranges.{AreNames};
-ghost use Rattle.cpl_restart.specs.Diffusion.{IsAirArea, IsAirMesh};
-ghost use Rattle.cpl_restart.specs.States.{IsWhole};
+ghost use Rattle.cpl_state.specs.Diffusion.{IsAirMesh};
+ghost use Rattle.cpl_state.specs.States.{IsWhole};
 ghost use Rattle.cpl_xgrid.specs.Grids.{IsGrid};
 
-use cpl_fixed::MOST_AREA;
 use cpl_gridfile::read_grid;
 use cpl_namelist::Names;
 use cpl_plan::{Holdings, Plan, PlanError, holdings_of};
-use cpl_restart::{Whole, decode};
+use cpl_restart::decode;
+use cpl_state::Whole;
 use cpl_xgrid::Grid;
 use std::alloc::{AllocError, Global};
 use std::test::Fail;
@@ -36,19 +35,13 @@ pub(crate) struct Start {
     pub salt: i64,
 }
 
-fn are_areas(area: &[i64]) -> bool
-    ensures { OnTrue result (All IsAirArea area.now) }
-{
-    area.iter().all(|a| *a > 0 && *a as u64 <= MOST_AREA)
-}
-
 pub(crate) fn column(alloc: Global) -> Result<Grid, Fail>
     ensures grid { IfOk result IsGrid }
     ensures air { IfOk result (λ grid. IsAirMesh grid.air) }
 {
     match read_grid(alloc, COLUMN.as_bytes()) {
-        Ok(grid) if are_areas(grid.air.area.as_slice()) => Ok(grid),
-        _ => Err("the text is a coupled grid's")?,
+        Ok(grid) => Ok(grid),
+        Err(_) => Err("the text is a coupled grid's")?,
     }
 }
 

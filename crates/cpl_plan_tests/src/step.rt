@@ -2,15 +2,16 @@
 ghost use Rattle.std.specs.Prelude.{◌≡◌, IfOk, OnOk, Ok};
 ghost use Rattle.cpl_course.specs.Course.{KeepsCoupling};
 ghost use Rattle.cpl_namelist.specs.Ranges.{AreNames};
-ghost use Rattle.cpl_restart.specs.Diffusion.{IsAirMesh};
+ghost use Rattle.cpl_state.specs.Diffusion.{IsAirMesh};
 ghost use Rattle.cpl_restart.specs.RestartBytes.{whole_of};
-ghost use Rattle.cpl_restart.specs.States.{IsWhole};
+ghost use Rattle.cpl_state.specs.States.{IsWhole};
 ghost use Rattle.cpl_xgrid.specs.Grids.{IsGrid};
 
 use crate::parts::{Start, column, names, restart};
 use cpl_namelist::Names;
 use cpl_plan::Plan;
-use cpl_restart::{Whole, decode};
+use cpl_restart::decode;
+use cpl_state::Whole;
 use cpl_whole::{StepTally, step_whole};
 use cpl_xgrid::Grid;
 use std::alloc::Global;

@@ -7,11 +7,12 @@ use Rattle.std.specs.List.{AllByRecursion}
 use Rattle.std.proofs.lemmas.Int.{ints}
 use Rattle.std.proofs.lemmas.List.{append-nil}
 use Rattle.std.proofs.lemmas.List.Elements.{All-from_recursion, recursion_from_All}
-use Rattle.cpl_restart.specs.Numbers.{section_bytes, is_negative, IsStored}
+use Rattle.cpl_restart.specs.Numbers.{section_bytes, is_negative}
+use Rattle.cpl_state.specs.Stored.{IsStored}
 use Rattle.cpl_fixed.specs.Results.{◌>>=◌}
 use Rattle.cpl_restart.specs.Sections.{after_mark, section_at, nothing_after, no_negative}
 use Rattle.cpl_restart.specs.AirBytes.{Reads, IsAir, air_mark, air_bytes, air_of}
-use Rattle.cpl_restart.specs.declared.air.Air.{Air}
+use Rattle.cpl_state.specs.declared.air.Air.{Air}
 use Rattle.cpl_restart.specs.declared.start_error.StartError.{StartError}
 use Rattle.cpl_restart.proofs.Words.{IsBytes}
 use Rattle.cpl_restart.proofs.Parts.{bind_at, bind_ok, ok_is, Takes-then, mark_takes, mark_again, section_takes, section_again, end_takes, signs_take, signs_again}

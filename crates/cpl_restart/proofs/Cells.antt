@@ -16,7 +16,7 @@ use Rattle.cpl_mosaic.specs.Mates.{MatesAgree}
 use Rattle.cpl_faces.specs.declared.face.Face.{Face}
 use Rattle.cpl_faces.specs.Faces.{AreFaces, face_in}
 use Rattle.cpl_restart.specs.Lawful.{IsFaceOn, spot_at}
-use Rattle.cpl_restart.specs.States.{all_of_cell, of_cell}
+use Rattle.cpl_state.specs.States.{all_of_cell, of_cell}
 use Rattle.cpl_restart.specs.declared.lawful.Spot.{Spot}
 use Rattle.cpl_restart.proofs.Spots.{div_is}
 

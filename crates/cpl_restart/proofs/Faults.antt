@@ -11,7 +11,7 @@ use Rattle.cpl_restart.specs.Numbers.{number_bytes, section_bytes, is_negative}
 use Rattle.cpl_fixed.specs.Results.{◌>>=◌}
 use Rattle.cpl_restart.specs.Sections.{after_mark, section_at, nothing_after, no_negative_at, no_negative}
 use Rattle.cpl_restart.specs.AirBytes.{HasSections, air_mark, air_bytes, air_of}
-use Rattle.cpl_restart.specs.declared.air.Air.{Air}
+use Rattle.cpl_state.specs.declared.air.Air.{Air}
 use Rattle.cpl_restart.specs.declared.start_error.StartError.TheVariants.{Short, Magic, Shape, Trailing, Negative}
 use Rattle.cpl_restart.proofs.Parts.{bind_at, bind_err, mark_again, mark_short, mark_other, IsSection, section_again, section_few, section_short, section_shape, more_behind}
 use Rattle.cpl_restart.proofs.AirLaws.{signed, ended, with_vapour, with_heat}

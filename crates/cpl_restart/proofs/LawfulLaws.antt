@@ -21,13 +21,13 @@ use Rattle.cpl_mosaic.specs.Cells.{NumbersAgree}
 use Rattle.cpl_mosaic.specs.Mates.{MatesAgree}
 use Rattle.cpl_xgrid.specs.declared.grid.Grid.{Grid}
 use Rattle.cpl_faces.specs.Faces.{AreFaces, face_in}
-use Rattle.cpl_restart.specs.Numbers.{IsStored}
+use Rattle.cpl_state.specs.Stored.{IsStored}
 use Rattle.cpl_restart.specs.Sections.{no_negative}
-use Rattle.cpl_restart.specs.States.{cells_in, ocean_faces, face_count, layers, categories, part_count, HasLengths, AreStored, IsDry, IsWet, HasNone, HasNoneInLayers, IsDryFace, AreFaceNumbers, face_at, face_number, all_of_cell, IsWhole}
+use Rattle.cpl_state.specs.States.{cells_in, ocean_faces, face_count, layers, categories, part_count, HasLengths, AreStored, IsDry, IsWet, HasNone, HasNoneInLayers, IsDryFace, AreFaceNumbers, face_at, face_number, all_of_cell, IsWhole}
 use Rattle.cpl_restart.specs.Lawful.{least, if_none, in_turn, signed_sections, no_negatives, spreads, is_dry, is_left, is_stray, no_stray, no_strays, spread, has_other_parts, whole_parts, is_walled, is_wrong, is_wrong_at, right_faces, judged}
 use Rattle.cpl_restart.specs.declared.start_error.StartError.{StartError}
 use Rattle.cpl_restart.specs.declared.start_error.StartError.TheVariants.{Parts, Dry, Wall}
-use Rattle.cpl_restart.specs.declared.whole.Whole.{Whole}
+use Rattle.cpl_state.specs.declared.whole.Whole.{Whole}
 use Rattle.cpl_restart.proofs.AirLaws.{amounts, words}
 use Rattle.cpl_restart.proofs.Cells.{face_on, one_each}
 use Rattle.cpl_restart.proofs.Least.{least_none, none_least}

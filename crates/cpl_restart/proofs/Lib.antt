@@ -13,3 +13,4 @@ pub mod Tests
 pub mod LawfulLaws
 pub mod RestartLaws
 pub mod RestartFaults
+pub mod Sizes

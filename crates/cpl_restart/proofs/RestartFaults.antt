@@ -18,7 +18,7 @@ use Rattle.cpl_restart.specs.declared.start_error.StartError.{StartError}
 use Rattle.cpl_restart.specs.declared.start_error.StartError.TheVariants.{Short, Magic, Shape, Sum, Trailing}
 use Rattle.cpl_restart.specs.declared.version.Version.{Version}
 use Rattle.cpl_restart.specs.declared.version.Version.TheVariants.{First, Second}
-use Rattle.cpl_restart.specs.declared.whole.Whole.{Whole}
+use Rattle.cpl_state.specs.declared.whole.Whole.{Whole}
 use Rattle.cpl_restart.proofs.Faults.{take_past}
 use Rattle.cpl_restart.proofs.Parts.{IsSection, bind_at, bind_err, more_behind, not_true, section_again, section_shape, section_short}
 use Rattle.cpl_restart.proofs.RestartLaws.{ended, with_elapsed, with_state}

@@ -11,12 +11,12 @@ use Rattle.cpl_xgrid.specs.declared.grid.Grid.{Grid}
 use Rattle.cpl_restart.specs.Lawful.{judged}
 use Rattle.cpl_restart.specs.Sections.{Reads, is_memory, nothing_after}
 use Rattle.cpl_restart.specs.Counts.{AreCounts, AreShort}
-use Rattle.cpl_restart.specs.States.{HasLengths, IsWhole}
+use Rattle.cpl_state.specs.States.{HasLengths, IsWhole}
 use Rattle.cpl_restart.specs.declared.counts.Counts.{Counts}
 use Rattle.cpl_restart.specs.RestartBytes.{IsSpelled, counts_of, elapsed_at, elapsed_bytes, mark_of, section_of, sections_at, sections_of, state_at, summed_bytes, version_at, whole_bytes, whole_of, whole_with}
 use Rattle.cpl_restart.specs.declared.start_error.StartError.{StartError}
 use Rattle.cpl_restart.specs.declared.version.Version.{Version}
-use Rattle.cpl_restart.specs.declared.whole.Whole.{Whole}
+use Rattle.cpl_state.specs.declared.whole.Whole.{Whole}
 use Rattle.cpl_restart.proofs.LawfulLaws.{AllFit, Knows, all_fit, is_lawful, lawful_is}
 use Rattle.cpl_restart.proofs.Parts.{IsSection, Takes, Takes-then, bind_at, bind_ok, end_takes, ok_is}
 use Rattle.cpl_restart.proofs.RestartParts.{AreSections, elapsed_again, elapsed_takes, sections_again, sections_take, version_again, version_takes}

@@ -2,11 +2,12 @@
 use Rattle.std.specs.Prelude.{◌≡◌, ℕ, List, ◌++◌, codes, length, Result, Ok, All}
 use Rattle.std.specs.Int.{w64}
 use Rattle.std.specs.Int.RustNames.{FitsSigned}
-use Rattle.cpl_restart.specs.Numbers.{section_bytes, IsStored}
+use Rattle.cpl_restart.specs.Numbers.{section_bytes}
+use Rattle.cpl_state.specs.Stored.{IsStored}
 use Rattle.cpl_fixed.specs.Results.{◌>>=◌}
 use Rattle.cpl_restart.specs.Sections.{after_mark, section_at, nothing_after, no_negative}
 pub use Rattle.cpl_restart.specs.Sections.{Reads}
-use Rattle.cpl_restart.specs.declared.air.Air.{Air}
+use Rattle.cpl_state.specs.declared.air.Air.{Air}
 use Rattle.cpl_restart.specs.declared.start_error.StartError.{StartError}
 
 -- the first eight bytes of an air state

@@ -4,7 +4,7 @@ use Rattle.std.specs.List.{AllByRecursion}
 use Rattle.cpl_xgrid.specs.declared.grid.Grid.{Grid}
 use Rattle.cpl_restart.specs.RestartBytes.{counts_of}
 use Rattle.cpl_restart.specs.declared.counts.Counts.{Counts}
-use Rattle.cpl_restart.specs.declared.whole.Whole.{Whole}
+use Rattle.cpl_state.specs.declared.whole.Whole.{Whole}
 
 -- the counts section by section
 abbrev pub counts_in : Counts → List ℕ

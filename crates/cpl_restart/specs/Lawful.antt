@@ -12,11 +12,11 @@ use Rattle.cpl_xgrid.specs.declared.grid.Grid.{Grid}
 use Rattle.cpl_faces.specs.declared.face.Face.{Face}
 use Rattle.cpl_restart.specs.Sections.{no_negative}
 use Rattle.cpl_faces.specs.Faces.{face_in}
-use Rattle.cpl_restart.specs.States.{cells_in, ocean_faces, categories, part_count, all_of_cell}
+use Rattle.cpl_state.specs.States.{cells_in, ocean_faces, categories, part_count, all_of_cell}
 use Rattle.cpl_restart.specs.declared.lawful.Spot.{Spot}
 use Rattle.cpl_restart.specs.declared.start_error.StartError.{StartError}
 use Rattle.cpl_restart.specs.declared.start_error.StartError.TheVariants.{Parts, Dry, Wall}
-use Rattle.cpl_restart.specs.declared.whole.Whole.{Whole}
+use Rattle.cpl_state.specs.declared.whole.Whole.{Whole}
 
 -- the least number below a count that a test finds
 abbrev pub least : (ℕ → Bool) → (count : ℕ) → Option ℕ

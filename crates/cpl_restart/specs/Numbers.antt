@@ -27,7 +27,3 @@ numbers_in (suc n) bytes = number_in bytes ∷ numbers_in n (drop 8 bytes)
 abbrev pub is_negative : ℤ → Bool
 is_negative (pos n) = false
 is_negative (negsuc n) = true
-
--- a number that a state holds: not negative, and within 64 bits with a sign
-abbrev pub IsStored : ℤ → Type 0
-IsStored x = (pos 0 ≤ℤ x) × (x <ℤ pos (2 ^ 63))

@@ -8,13 +8,13 @@ use Rattle.cpl_fixed.specs.Results.{◌>>=◌}
 use Rattle.cpl_xgrid.specs.declared.grid.Grid.{Grid}
 use Rattle.cpl_restart.specs.Numbers.{number_bytes, number_in, section_bytes}
 use Rattle.cpl_restart.specs.Sections.{section_at, wrapped_sum, after_sum, nothing_after}
-use Rattle.cpl_restart.specs.States.{air_cells, land_cells, ocean_cells, face_count, layers, categories, part_count, HasLengths}
+use Rattle.cpl_state.specs.States.{air_cells, land_cells, ocean_cells, face_count, layers, categories, part_count, HasLengths}
 use Rattle.cpl_restart.specs.Lawful.{judged}
 use Rattle.cpl_restart.specs.declared.start_error.StartError.{StartError}
 use Rattle.cpl_restart.specs.declared.start_error.StartError.TheVariants.{Short, Magic}
 use Rattle.cpl_restart.specs.declared.version.Version.{Version}
 use Rattle.cpl_restart.specs.declared.version.Version.TheVariants.{First, Second}
-use Rattle.cpl_restart.specs.declared.whole.Whole.{Whole}
+use Rattle.cpl_state.specs.declared.whole.Whole.{Whole}
 
 -- SPELLING
 

@@ -3,22 +3,16 @@ ghost use Rattle.std.specs.Prelude.{◌≡◌, ◌≢◌, ◌<◌, ◌≤◌, �
 ghost use Rattle.std.specs.List.{position};
 ghost use Rattle.cpl_restart.specs.Numbers.{number_bytes, section_bytes, is_negative};
 ghost use Rattle.cpl_restart.specs.AirBytes.{IsAir, HasSections, Reads, air_mark, air_bytes, air_of};
-ghost use Rattle.cpl_restart.specs.declared.air.Air.{Air as AirState};
+ghost use Rattle.cpl_state.specs.declared.air.Air.{Air as AirState};
 
 use crate::sections::{read_end, read_mark, read_section, refuse_negative, write_section};
 use crate::start_error::StartError;
 use cpl_fixed::List;
+use cpl_state::Air;
 use std::alloc::{AllocError, Global};
 
 /// The first eight bytes of an air state.
 const AIR_MARK: &[u8; 8] = b"CPLAIR01";
-
-/// The air alone: the heat and the vapour of each cell in whole order, none of them negative.
-#[derive(Drop)]
-pub struct Air {
-    pub heat: List<i64>,
-    pub vapour: List<i64>,
-}
 
 #[tactic(auto, unfolding(crate::specs::AirBytes::air_of))]
 fn air_sections(alloc: Global, cells: u32, bytes: &[u8]) -> Result<Air, StartError>
@@ -55,8 +49,8 @@ pub fn decode_air(alloc: Global, cells: u32, bytes: &[u8]) -> Result<Air, StartE
     air_sections(alloc, cells, bytes)
 }
 
-/// The one spelling of an air state, as `decode_air` tells it. It has 24 bytes, and 16 for each cell.
-pub fn encode_air(alloc: Global, air: &Air) -> Result<Vec<u8>, AllocError>
+// The spelling of an air state.
+fn spell_air(alloc: Global, air: &Air) -> Result<Vec<u8>, AllocError>
     ensures { IfOk result (λ bytes. bytes.items ≡ air_bytes air.now) }
 {
     let numbers = air.heat.len().saturating_add(air.vapour.len());
@@ -67,6 +61,14 @@ pub fn encode_air(alloc: Global, air: &Air) -> Result<Vec<u8>, AllocError>
     write_section(&mut bytes, air.heat.as_slice())?;
     write_section(&mut bytes, air.vapour.as_slice())?;
     Ok(bytes)
+}
+
+/// The one spelling of an air state, as `decode_air` tells it; reading it gives the state back. It has 24 bytes, and 16 for each cell.
+pub fn encode_air(alloc: Global, air: &Air) -> Result<Vec<u8>, AllocError>
+    ensures spelled { IfOk result (λ bytes. bytes.items ≡ air_bytes air.now) }
+    ensures back { IfOk result (λ bytes. (cells : ℕ) → cells < 2 ^ 32 → IsAir cells air.now → air_of cells bytes.items ≡ Ok air.now) }
+{
+    spell_air(alloc, air)
 }
 
 /// A theorem, and no work: the faults of the air's bytes, told by spellings. What is cut off, changed or added is refused by

@@ -1,13 +1,14 @@
 // How many numbers each section of a restart has.
 ghost use Rattle.std.specs.Prelude.{◌≡◌, ◌≤◌, ◌*◌, ◌^◌, length};
 ghost use Rattle.std.specs.List.{AllByRecursion};
+ghost use Rattle.cpl_fixed.specs.declared.limits.TheConstants.{MOST_CELLS};
 ghost use Rattle.cpl_mosaic.specs.Cells.{NumbersAgree};
 ghost use Rattle.cpl_mosaic.specs.Mates.{MatesAgree};
 ghost use Rattle.cpl_faces.specs.Faces.{AreFaces};
 ghost use Rattle.cpl_xgrid.specs.Grids.{IsGrid};
 ghost use Rattle.cpl_restart.specs.Counts.{AreCounts};
 ghost use Rattle.cpl_restart.specs.RestartBytes.{counts_of};
-ghost use Rattle.cpl_restart.specs.States.{ocean_cells, ocean_faces};
+ghost use Rattle.cpl_state.specs.States.{air_cells, land_cells, ocean_cells, ocean_faces};
 
 use cpl_faces::{Face, faces_law};
 use cpl_xgrid::Grid;
@@ -54,11 +55,12 @@ pub(crate) fn counts_of(grid: &Grid, faces: &[Face]) -> Counts
     }
 }
 
-/// What is known of a grid: no section of its restart has more than 2^24 numbers, and the numbers, the mates and the faces of the
-/// ocean's mosaic agree. No work is done.
+/// What is known of a grid: no section of its restart has more than 2^24 numbers, no mosaic more than 2^18 cells, and the numbers,
+/// the mates and the faces of the ocean's mosaic agree. No work is done.
 pub(crate) fn known_of(grid: &Grid)
     requires { IsGrid grid.now }
     ensures small { AllByRecursion (λ n. n ≤ 2 ^ 24) (counts_of grid.now) }
+    ensures cells { (air_cells grid.now ≤ MOST_CELLS) × (land_cells grid.now ≤ MOST_CELLS) × (ocean_cells grid.now ≤ MOST_CELLS) }
     ensures numbers { NumbersAgree grid.now.ocean.mosaic.tiles }
     ensures mates { MatesAgree grid.now.ocean.mosaic }
     ensures faces { AreFaces grid.now.ocean.mosaic (ocean_faces grid.now) }

@@ -7,14 +7,14 @@ ghost use Rattle.cpl_xgrid.specs.Lists.{IsMesh};
 ghost use Rattle.cpl_restart.specs.Counts.{AreShort};
 ghost use Rattle.cpl_restart.specs.Lawful.{IsFaceOn, are_other_parts, is_dry, is_left, is_walled, is_wrong, judged, no_negatives, no_stray, no_strays, right_faces, spot_at, spread, whole_parts};
 ghost use Rattle.cpl_restart.specs.Sections.{Reads, no_negative};
-ghost use Rattle.cpl_restart.specs.States.{HasLengths, cells_in, ocean_faces};
+ghost use Rattle.cpl_state.specs.States.{HasLengths, cells_in, ocean_faces};
 
 use crate::sections::refuse_negative;
 use crate::start_error::StartError;
-use crate::whole::Whole;
 use cpl_faces::Face;
 use cpl_fixed::{MOST_FACE, PARTS};
 use cpl_mosaic::Mesh;
+use cpl_state::Whole;
 use cpl_xgrid::Grid;
 
 // The elapsed seconds are section 0.

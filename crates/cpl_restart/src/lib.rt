@@ -1,4 +1,4 @@
-//! The states of a run, their bytes, and the definitions of the undivided run.
+//! The bytes of the states of a run: reading, judging and writing them.
 #![tactic(auto)]
 
 mod air;
@@ -10,10 +10,9 @@ mod sections;
 mod spellings;
 mod start_error;
 mod version;
-mod whole;
 
-pub use air::{Air, decode_air, encode_air, faults_of_air};
-pub use restart::{decode, encode, encode_first};
+pub use air::{decode_air, encode_air, faults_of_air};
+pub use cpl_state::{Air, Mid, Whole};
+pub use restart::{decode, encode, encode_first, restart_reads_back};
 pub use spellings::faults_of_restart;
 pub use start_error::StartError;
-pub use whole::{Mid, Whole};

@@ -1,13 +1,15 @@
 // The undivided state as the bytes of a restart.
-ghost use Rattle.std.specs.Prelude.{◌≡◌, ◌++◌, ◌<◌, ◌^◌, [], ◌∷◌, ◌≤◌, IfOk, OnOk, Ok};
+ghost use Rattle.std.specs.Prelude.{◌≡◌, ◌++◌, ◌<◌, ◌^◌, [], ◌∷◌, ◌≤◌, length, IfOk, OnOk, Ok};
 ghost use Rattle.std.specs.List.{AllByRecursion, flat_map};
+ghost use Rattle.cpl_fixed.specs.declared.limits.TheConstants.{MOST_START_BYTES};
 ghost use Rattle.cpl_xgrid.specs.Grids.{IsGrid};
 ghost use Rattle.cpl_restart.specs.Counts.{AreCounts};
 ghost use Rattle.cpl_restart.specs.RestartBytes.{IsSpelled, counts_of, elapsed_bytes, sections_of, state_at, sum_bytes, summed_bytes, whole_bytes, whole_of};
+ghost use Rattle.cpl_restart.specs.SecondBytes.{second_bytes};
 ghost use Rattle.cpl_restart.specs.Sections.{Reads};
-ghost use Rattle.cpl_restart.specs.States.{HasLengths, IsWhole};
+ghost use Rattle.cpl_state.specs.States.{HasLengths, IsWhole};
 ghost use Rattle.cpl_restart.specs.declared.version.Version.TheVariants.{First, Second};
-ghost use Rattle.cpl_restart.specs.declared.whole.Whole.{Whole as WholeState};
+ghost use Rattle.cpl_state.specs.declared.whole.Whole.{Whole as WholeState};
 
 use crate::counts::{Counts, counts_of, known_of};
 use crate::lawful::judge;
@@ -15,9 +17,9 @@ use crate::reading::{FIRST_MARK, SECOND_MARK, read_elapsed, read_summed, read_ve
 use crate::sections::{read_end, wrapped_sum, write_number, write_section};
 use crate::start_error::StartError;
 use crate::version::Version;
-use crate::whole::Whole;
 use cpl_faces::faces;
 use cpl_fixed::List;
+use cpl_state::Whole;
 use cpl_xgrid::Grid;
 use std::alloc::{AllocError, Global};
 
@@ -218,4 +220,14 @@ pub fn encode_first(alloc: Global, grid: &Grid, whole: &Whole) -> Result<Vec<u8>
 {
     known_of(grid);
     spell(alloc, Version::First, whole)
+}
+
+/// What `encode` writes is within the limit of a start, and reading it gives the state back: a run can go on from what another left.
+/// It takes no memory.
+pub fn restart_reads_back(grid: &Grid)
+    requires { IsGrid grid.now }
+    ensures within { (whole : WholeState) → IsWhole grid.now whole → length (second_bytes whole) ≤ MOST_START_BYTES }
+    ensures back { (whole : WholeState) → IsWhole grid.now whole → whole_of grid.now (second_bytes whole) ≡ Ok whole }
+{
+    known_of(grid);
 }

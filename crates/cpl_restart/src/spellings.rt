@@ -9,7 +9,7 @@ ghost use Rattle.cpl_restart.specs.declared.start_error.StartError.{StartError};
 ghost use Rattle.cpl_restart.specs.declared.start_error.StartError.TheVariants.{Short, Magic, Shape, Sum, Trailing};
 ghost use Rattle.cpl_restart.specs.declared.version.Version.{Version};
 ghost use Rattle.cpl_restart.specs.declared.version.Version.TheVariants.{Second};
-ghost use Rattle.cpl_restart.specs.declared.whole.Whole.{Whole};
+ghost use Rattle.cpl_state.specs.declared.whole.Whole.{Whole};
 
 /// A theorem, and no work: the faults of a restart's bytes, told by spellings. What is cut off, changed or added is refused by the
 /// fault that says so. The states are those that sections of the grid's counts can hold, lawful or not.

@@ -6,7 +6,7 @@ use Rattle.std.specs.Prelude.{ℤ, pos, ◌+ℤ◌, ◌≤ℤ◌}
 use Rattle.std.proofs.lemmas.Int.{ints}
 use Rattle.std.proofs.lemmas.Bool.{cases_lt}
 use Rattle.std.proofs.lemmas.List.{get_or_default, take_more}
-use Rattle.cpl_restart.specs.Diffusion.{total_of}
+use Rattle.cpl_state.specs.Diffusion.{total_of}
 
 pub not_below : (a b : ℤ) → lt_z a b ≡ false → b ≤ℤ a
 not_below a b h = grind (arith, ints)

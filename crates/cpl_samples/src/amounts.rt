@@ -1,7 +1,7 @@
 // Amounts that a test makes.
 ghost use Rattle.std.specs.Prelude.{length};
 ghost use Rattle.std.specs.Bool.{OnTrue};
-ghost use Rattle.cpl_restart.specs.Diffusion.{AreAmounts};
+ghost use Rattle.cpl_state.specs.Diffusion.{AreAmounts};
 
 /// The greatest total, 2^62 - 1.
 const MOST: i64 = 4611686018427387903;

@@ -18,9 +18,9 @@ use Rattle.cpl_ice.specs.declared.parts.Salty.{Salty}
 use Rattle.cpl_transport.specs.Mixing.{part, exchanged, passed, mixed}
 use Rattle.cpl_transport.specs.Cuts.{uncut, cut_of}
 use Rattle.cpl_transport.specs.Salts.{joined, nothing, without}
-use Rattle.cpl_restart.specs.Diffusion.{cell_count}
-use Rattle.cpl_restart.specs.Transport.{Sea, cell_in, face_at, flow_through, flow_to, is_first, is_second, is_wet, moved_out, next_number, no_face, outward, seen, stepped, transported}
-use Rattle.cpl_restart.specs.Cut.{with_flight, cut_at, after_cut, to_ice_numbers}
+use Rattle.cpl_state.specs.Diffusion.{cell_count}
+use Rattle.cpl_state.specs.Transport.{Sea, cell_in, face_at, flow_through, flow_to, is_first, is_second, is_wet, moved_out, next_number, no_face, outward, seen, stepped, transported}
+use Rattle.cpl_state.specs.Cut.{with_flight, cut_at, after_cut, to_ice_numbers}
 use Rattle.cpl_sea.specs.Seas.{IsSea}
 use Rattle.cpl_sea.proofs.Flows.{flow_none, wall_keeps}
 use Rattle.cpl_sea.proofs.Rows.{layered_at}

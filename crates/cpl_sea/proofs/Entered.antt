@@ -11,8 +11,8 @@ use Rattle.cpl_mosaic.specs.Sides.{is_same_direction}
 use Rattle.cpl_mosaic.specs.declared.mosaic.Mesh.{Mesh}
 use Rattle.cpl_faces.specs.declared.face.Face.{Face}
 use Rattle.cpl_faces.specs.Faces.{faces_of}
-use Rattle.cpl_restart.specs.Diffusion.{cell_count}
-use Rattle.cpl_restart.specs.Transport.{face_at, is_first, is_second, no_face}
+use Rattle.cpl_state.specs.Diffusion.{cell_count}
+use Rattle.cpl_state.specs.Transport.{face_at, is_first, is_second, no_face}
 use Rattle.cpl_sea.specs.declared.links.SideFace.{SideFace}
 use Rattle.cpl_sea.specs.declared.links.SideFace.TheVariants.{First, Second}
 use Rattle.cpl_sea.specs.declared.links.CellFaces.{CellFaces}

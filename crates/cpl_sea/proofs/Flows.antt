@@ -14,8 +14,8 @@ use Rattle.cpl_ice.specs.declared.parts.Salty.{Salty}
 use Rattle.cpl_transport.specs.Moves.{through}
 use Rattle.cpl_transport.specs.Salts.{nothing, turned}
 use Rattle.cpl_transport.proofs.Leaving.{given_none, through_turned}
-use Rattle.cpl_restart.specs.Diffusion.{cell_number}
-use Rattle.cpl_restart.specs.Transport.{Sea, behind, cell_in, face_at, flow_through, flow_to, is_first, is_open, is_second, next_number, no_face, outward, seen}
+use Rattle.cpl_state.specs.Diffusion.{cell_number}
+use Rattle.cpl_state.specs.Transport.{Sea, behind, cell_in, face_at, flow_through, flow_to, is_first, is_open, is_second, next_number, no_face, outward, seen}
 use Rattle.cpl_sea.specs.Links.{face_flow, seen_flow, side_face, side_face_by}
 use Rattle.cpl_sea.specs.Seas.{IsOcean}
 use Rattle.cpl_sea.proofs.Sides.{first_of, second_of}

@@ -22,8 +22,8 @@ use Rattle.cpl_transport.proofs.Columns.{mixed_least, sum_same}
 use Rattle.cpl_transport.proofs.Leaving.{through_outflow}
 use Rattle.cpl_diffusion.proofs.Conserved.{amount_at}
 use Rattle.cpl_diffusion.proofs.Sums.{sum_to, sum_to-same, sum_to-above}
-use Rattle.cpl_restart.specs.Diffusion.{AreAmounts, cell_count, cell_number}
-use Rattle.cpl_restart.specs.Transport.{Sea, behind, cell_in, flow_through, flow_to, layered, moved_out, next_number, outward, transported}
+use Rattle.cpl_state.specs.Diffusion.{AreAmounts, cell_count, cell_number}
+use Rattle.cpl_state.specs.Transport.{Sea, behind, cell_in, flow_through, flow_to, layered, moved_out, next_number, outward, transported}
 use Rattle.cpl_sea.specs.Seas.{IsOcean, IsSea}
 use Rattle.cpl_sea.proofs.Pairs.{IsPart, transported_same}
 use Rattle.cpl_sea.proofs.Rows.{length_layered, place_below, sum_column, sum_swap, total_layered, total_layers}

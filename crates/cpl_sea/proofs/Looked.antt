@@ -15,8 +15,8 @@ use Rattle.cpl_mosaic.specs.Cells.{cell_of}
 use Rattle.cpl_mosaic.specs.Mates.{mate_of}
 use Rattle.cpl_faces.specs.declared.face.Face.{Face}
 use Rattle.cpl_faces.specs.Faces.{faces_of}
-use Rattle.cpl_restart.specs.Diffusion.{cell_count, cell_number}
-use Rattle.cpl_restart.specs.Transport.{behind, face_at, face_count, is_first, is_open, is_second, no_face, open_or}
+use Rattle.cpl_state.specs.Diffusion.{cell_count, cell_number}
+use Rattle.cpl_state.specs.Transport.{behind, face_at, face_count, is_first, is_open, is_second, no_face, open_or}
 use Rattle.cpl_sea.specs.declared.links.Link.{Link}
 use Rattle.cpl_sea.specs.declared.links.SideFace.TheVariants.{Alone}
 use Rattle.cpl_sea.specs.declared.links.CellFaces.{CellFaces}

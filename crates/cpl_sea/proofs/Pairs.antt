@@ -19,8 +19,8 @@ use Rattle.cpl_transport.proofs.Leaving.{through_turned}
 use Rattle.cpl_diffusion.proofs.Sums.{sum_to, sum_to-same, sum_to-sub}
 use Rattle.cpl_diffusion.proofs.Exchange.{through as passing, out, exchanged}
 use Rattle.cpl_diffusion.proofs.Mates.{numbered, side_number, side_of, joined, joined_mates, cell-numbered, side_at-numbered}
-use Rattle.cpl_restart.specs.Diffusion.{cell_count, cell_number}
-use Rattle.cpl_restart.specs.Transport.{Sea, behind, cell_in, flow_through, flow_to, moved_out, next_number, outward, transported}
+use Rattle.cpl_state.specs.Diffusion.{cell_count, cell_number}
+use Rattle.cpl_state.specs.Transport.{Sea, behind, cell_in, flow_through, flow_to, moved_out, next_number, outward, transported}
 use Rattle.cpl_sea.specs.Seas.{IsOcean}
 use Rattle.cpl_sea.proofs.Sides.{seen_turned}
 use Rattle.cpl_sea.proofs.Rows.{sum_rows}

@@ -14,9 +14,9 @@ use Rattle.cpl_transport.specs.Cells.{mixed_cell}
 use Rattle.cpl_transport.specs.Heights.{IsHeight, next_face}
 use Rattle.cpl_transport.specs.Mixing.{mixed}
 use Rattle.cpl_transport.specs.Salts.{IsSalty, joined, without}
-use Rattle.cpl_restart.specs.Diffusion.{AreAmounts, cell_count}
+use Rattle.cpl_state.specs.Diffusion.{AreAmounts, cell_count}
 use Rattle.cpl_diffusion.proofs.Conserved.{amount_at}
-use Rattle.cpl_restart.specs.Transport.{Sea, face_at, face_count, height_at, is_open, is_wet, layered, moved_out, next_number, stepped, transported}
+use Rattle.cpl_state.specs.Transport.{Sea, face_at, face_count, height_at, is_open, is_wet, layered, moved_out, next_number, stepped, transported}
 use Rattle.cpl_sea.specs.declared.before.Before.{Before}
 use Rattle.cpl_sea.specs.declared.links.Link.{Link}
 use Rattle.cpl_sea.specs.declared.links.CellFaces.{CellFaces}

@@ -9,8 +9,8 @@ use Rattle.std.proofs.lemmas.Bool.{cases_eq, cases_lt}
 use Rattle.cpl_fixed.specs.Amounts.{IsAmount, at}
 use Rattle.cpl_fixed.specs.Totals.{total_of}
 use Rattle.cpl_transport.specs.Mixing.{sum_of}
-use Rattle.cpl_restart.specs.Diffusion.{AreAmounts}
-use Rattle.cpl_restart.specs.Transport.{layered}
+use Rattle.cpl_state.specs.Diffusion.{AreAmounts}
+use Rattle.cpl_state.specs.Transport.{layered}
 use Rattle.cpl_diffusion.proofs.Conserved.{amount_at}
 use Rattle.cpl_diffusion.proofs.Sums.{sum_to, sum_to-same, sum_to-add, total_of-sum_to, sum_to-above}
 

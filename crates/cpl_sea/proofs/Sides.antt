@@ -17,7 +17,7 @@ use Rattle.cpl_mosaic.specs.Cells.{number_of, cell_of, NumbersAgree}
 use Rattle.cpl_faces.specs.declared.face.Face.{Face}
 use Rattle.cpl_faces.specs.Orders.{LessThen}
 use Rattle.cpl_faces.specs.Faces.{AreFaces, Comes, IsFace, face_of, faces_of, rank}
-use Rattle.cpl_restart.specs.Transport.{is_first, is_second, no_face, outward, seen}
+use Rattle.cpl_state.specs.Transport.{is_first, is_second, no_face, outward, seen}
 
 -- TESTS
 

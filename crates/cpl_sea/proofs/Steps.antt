@@ -10,7 +10,7 @@ use Rattle.cpl_fixed.specs.declared.rates.Rates.{Rates}
 use Rattle.cpl_mosaic.specs.declared.mosaic.Mesh.{Mesh}
 use Rattle.cpl_ice.specs.declared.parts.Salty.{Salty}
 use Rattle.cpl_transport.specs.Heights.{IsFaceNumber, in_face, next_face}
-use Rattle.cpl_restart.specs.Transport.{Sea, face_at, face_count, height_at, is_open, layered, next_number, stepped}
+use Rattle.cpl_state.specs.Transport.{Sea, face_at, face_count, height_at, is_open, layered, next_number, stepped}
 use Rattle.cpl_sea.specs.Seas.{AreNumbers, IsOcean, IsSea}
 use Rattle.cpl_sea.proofs.Flows.{wall_keeps}
 use Rattle.cpl_sea.proofs.Kept.{layered_place, next_are, next_total}

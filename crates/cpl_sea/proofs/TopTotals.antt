@@ -14,9 +14,9 @@ use Rattle.cpl_mosaic.specs.declared.mosaic.Mesh.{Mesh}
 use Rattle.cpl_transport.specs.Cuts.{uncut}
 use Rattle.cpl_transport.specs.Salts.{IsSalty}
 use Rattle.cpl_transport.proofs.Frazil.{cut_flight, uncut_salty, cut_water, cut_heat, cut_salt}
-use Rattle.cpl_restart.specs.Diffusion.{AreAmounts, cell_count}
-use Rattle.cpl_restart.specs.Transport.{Sea, cell_in}
-use Rattle.cpl_restart.specs.Cut.{with_flight, cut_at, cut_off, after_cut, to_ice_numbers}
+use Rattle.cpl_state.specs.Diffusion.{AreAmounts, cell_count}
+use Rattle.cpl_state.specs.Transport.{Sea, cell_in}
+use Rattle.cpl_state.specs.Cut.{with_flight, cut_at, cut_off, after_cut, to_ice_numbers}
 use Rattle.cpl_diffusion.proofs.Sums.{sum_to, sum_to-same, sum_to-add, sum_to-least, sum_to-split, total_of-sum_to}
 use Rattle.cpl_diffusion.proofs.Conserved.{amount_at}
 use Rattle.cpl_sea.specs.Seas.{IsSea}

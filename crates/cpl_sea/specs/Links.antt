@@ -11,8 +11,8 @@ use Rattle.cpl_faces.specs.Faces.{faces_of}
 use Rattle.cpl_ice.specs.declared.parts.Salty.{Salty}
 use Rattle.cpl_transport.specs.Moves.{through}
 use Rattle.cpl_transport.specs.Salts.{nothing, turned}
-use Rattle.cpl_restart.specs.Diffusion.{cell_count}
-use Rattle.cpl_restart.specs.Transport.{Sea, behind, cell_in, face_at, is_first, is_open, is_second, next_number}
+use Rattle.cpl_state.specs.Diffusion.{cell_count}
+use Rattle.cpl_state.specs.Transport.{Sea, behind, cell_in, face_at, is_first, is_open, is_second, next_number}
 use Rattle.cpl_sea.specs.declared.links.Link.{Link}
 use Rattle.cpl_sea.specs.declared.links.SideFace.{SideFace}
 use Rattle.cpl_sea.specs.declared.links.SideFace.TheVariants.{Alone, First, Second}

@@ -4,7 +4,7 @@ use Rattle.std.specs.List.{position}
 use Rattle.cpl_mosaic.specs.declared.parts.Side.{Side}
 use Rattle.cpl_mosaic.specs.declared.parts.Side.TheVariants.{W, E, S, N}
 use Rattle.cpl_faces.specs.declared.face.Face.{Face}
-use Rattle.cpl_restart.specs.Transport.{is_first, is_second}
+use Rattle.cpl_state.specs.Transport.{is_first, is_second}
 use Rattle.cpl_sea.specs.declared.links.SideFace.{SideFace}
 use Rattle.cpl_sea.specs.declared.links.SideFace.TheVariants.{Alone, First, Second}
 use Rattle.cpl_sea.specs.declared.links.CellFaces.{CellFaces}

@@ -3,9 +3,9 @@ use Rattle.std.specs.Prelude.{◌≡◌, ℕ, ◌*◌, ◌≤◌, length}
 use Rattle.cpl_fixed.specs.Ranges.{IsFrom}
 use Rattle.cpl_fixed.specs.declared.limits.TheConstants.{MOST_CELLS, MOST_LAYERS}
 use Rattle.cpl_mosaic.specs.declared.mosaic.Mesh.{Mesh}
-use Rattle.cpl_restart.specs.Diffusion.{cell_count}
-use Rattle.cpl_restart.specs.declared.whole.Whole.{Whole}
-use Rattle.cpl_restart.specs.Transport.{Sea, face_count}
+use Rattle.cpl_state.specs.Diffusion.{cell_count}
+use Rattle.cpl_state.specs.declared.whole.Whole.{Whole}
+use Rattle.cpl_state.specs.Transport.{Sea, face_count}
 use Rattle.cpl_sea.specs.Blocks.{AreReady}
 use Rattle.cpl_sea.specs.Links.{all_cell_faces, links_of}
 use Rattle.cpl_sea.specs.Seas.{IsOcean}

@@ -7,8 +7,8 @@ use Rattle.cpl_mosaic.specs.Mates.{MatesAgree}
 use Rattle.cpl_xgrid.specs.Lists.{IsMesh}
 use Rattle.cpl_faces.specs.Faces.{AreFaces, faces_of}
 use Rattle.cpl_transport.specs.Heights.{IsFaceNumber}
-use Rattle.cpl_restart.specs.Diffusion.{AreAmounts, cell_count}
-use Rattle.cpl_restart.specs.Transport.{Sea, face_at, face_count, is_open}
+use Rattle.cpl_state.specs.Diffusion.{AreAmounts, cell_count}
+use Rattle.cpl_state.specs.Transport.{Sea, face_at, face_count, is_open}
 
 -- the mesh of an ocean: its areas, and numbers, mates and faces that agree
 pub record IsOcean (mesh : Mesh) : Type 0 where

@@ -2,7 +2,7 @@
 ghost use Rattle.std.specs.Prelude.{◌≡◌, ◌<◌, ◌≤◌, ◌^◌, ℕ, length, IfOk, slice_index_or, slice_set};
 ghost use Rattle.cpl_mosaic.specs.declared.parts.Side.{Side};
 ghost use Rattle.cpl_faces.specs.Faces.{faces_of};
-ghost use Rattle.cpl_restart.specs.Transport.{no_face};
+ghost use Rattle.cpl_state.specs.Transport.{no_face};
 ghost use Rattle.cpl_sea.specs.declared.links.SideFace.TheVariants.{Alone};
 ghost use Rattle.cpl_sea.specs.Links.{all_cell_faces};
 ghost use Rattle.cpl_sea.specs.Lists.{HasSides, by_both, by_firsts, or_else, with_side};

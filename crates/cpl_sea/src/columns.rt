@@ -6,7 +6,7 @@ ghost use Rattle.cpl_transport.specs.Cells.{mixed_cell, passed_cell};
 ghost use Rattle.cpl_transport.specs.Heights.{IsHeight};
 ghost use Rattle.cpl_transport.specs.Mixing.{sum_of};
 ghost use Rattle.cpl_transport.specs.Salts.{AreSmall, IsSalty};
-ghost use Rattle.cpl_restart.specs.Diffusion.{AreAmounts, cell_count};
+ghost use Rattle.cpl_state.specs.Diffusion.{AreAmounts, cell_count};
 ghost use Rattle.cpl_xgrid.specs.Lists.{IsArea, IsMesh};
 ghost use Rattle.cpl_sea.specs.Before.{IsLawful, cell_place};
 ghost use Rattle.cpl_sea.specs.Passes.{AreColumns, column_at, height_over, top_at};

@@ -4,7 +4,7 @@ ghost use Rattle.std.specs.List.{flat_map, range_with_len};
 ghost use Rattle.cpl_fixed.specs.Amounts.{IsAmount, at};
 ghost use Rattle.cpl_ice.specs.Cells.{IsFlight};
 ghost use Rattle.cpl_transport.specs.Cuts.{cut_of, uncut};
-ghost use Rattle.cpl_restart.specs.Cut.{to_ice_numbers};
+ghost use Rattle.cpl_state.specs.Cut.{to_ice_numbers};
 ghost use Rattle.cpl_sea.specs.Passes.{top_at};
 
 use cpl_ice::{Salty, ToIce};

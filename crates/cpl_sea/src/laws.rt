@@ -3,7 +3,7 @@ ghost use Rattle.std.specs.Prelude.{◌≡◌, ◌≤◌, ℕ};
 ghost use Rattle.cpl_fixed.specs.Totals.{total_of};
 ghost use Rattle.cpl_fixed.specs.declared.rates.Rates.{Rates};
 ghost use Rattle.cpl_mosaic.specs.declared.mosaic.Mesh.{Mesh};
-ghost use Rattle.cpl_restart.specs.Transport.{Sea, stepped};
+ghost use Rattle.cpl_state.specs.Transport.{Sea, stepped};
 ghost use Rattle.cpl_sea.specs.Seas.{IsOcean, IsSea};
 
 /// A step of the ocean moves water, heat and salt, and makes and loses none; no amount falls below 0, and the faces' numbers keep

@@ -1,8 +1,8 @@
 // What the steps of an ocean look up of its mosaic, made once.
 ghost use Rattle.std.specs.Prelude.{◌≡◌, ◌<◌, IfOk, length};
 ghost use Rattle.cpl_faces.specs.Faces.{faces_of};
-ghost use Rattle.cpl_restart.specs.Diffusion.{cell_count};
-ghost use Rattle.cpl_restart.specs.Transport.{behind, is_open};
+ghost use Rattle.cpl_state.specs.Diffusion.{cell_count};
+ghost use Rattle.cpl_state.specs.Transport.{behind, is_open};
 ghost use Rattle.cpl_sea.specs.Links.{link_of, links_of};
 ghost use Rattle.cpl_sea.specs.Seas.{IsOcean};
 

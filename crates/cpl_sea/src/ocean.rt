@@ -1,12 +1,12 @@
 // The ocean of a whole state.
 ghost use Rattle.std.specs.Prelude.{◌≡◌, ◌*◌, length, All};
 ghost use Rattle.cpl_fixed.specs.Amounts.{IsAmount};
-ghost use Rattle.cpl_restart.specs.Cut.{after_cut, cut_off, with_flight};
-ghost use Rattle.cpl_restart.specs.Diffusion.{cell_count};
+ghost use Rattle.cpl_state.specs.Cut.{after_cut, cut_off, with_flight};
+ghost use Rattle.cpl_state.specs.Diffusion.{cell_count};
 ghost use Rattle.cpl_fixed.specs.Ranges.{AreRates};
-ghost use Rattle.cpl_restart.specs.States.{layers, ocean_cells};
-ghost use Rattle.cpl_restart.specs.CouplingStep.{sea_of};
-ghost use Rattle.cpl_restart.specs.Transport.{stepped};
+ghost use Rattle.cpl_state.specs.States.{layers, ocean_cells};
+ghost use Rattle.cpl_state.specs.CouplingStep.{sea_of};
+ghost use Rattle.cpl_state.specs.Transport.{stepped};
 ghost use Rattle.cpl_sea.specs.Rooms.{HasSameRoom, IsSeaRoom, sea_in, with_sea};
 ghost use Rattle.cpl_sea.specs.Seas.{IsSea};
 
@@ -14,7 +14,7 @@ use crate::ends::{add_flight, cut_top};
 use crate::room::SeaRoom;
 use cpl_fixed::Rates;
 use cpl_mosaic::Mesh;
-use cpl_restart::Whole;
+use cpl_state::Whole;
 use cpl_xgrid::Grid;
 
 impl SeaRoom {

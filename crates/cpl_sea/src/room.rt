@@ -2,8 +2,8 @@
 ghost use Rattle.std.specs.Prelude.{◌≡◌, IfOk};
 ghost use Rattle.cpl_fixed.specs.Ranges.{AreRates};
 ghost use Rattle.cpl_xgrid.specs.Lists.{IsColumn, IsMesh};
-ghost use Rattle.cpl_restart.specs.States.{layers};
-ghost use Rattle.cpl_restart.specs.Transport.{stepped};
+ghost use Rattle.cpl_state.specs.States.{layers};
+ghost use Rattle.cpl_state.specs.Transport.{stepped};
 ghost use Rattle.cpl_sea.specs.Rooms.{IsSeaRoom, sea_in};
 ghost use Rattle.cpl_sea.specs.Seas.{IsSea};
 

@@ -22,9 +22,9 @@ use Rattle.cpl_laws.proofs.Groups.{total_cond}
 use Rattle.cpl_laws.specs.Once.{IsNumbered}
 use Rattle.cpl_laws.proofs.Outlets.{outlet_in}
 use Rattle.cpl_laws.proofs.Runoff.{before_natural, drained_below, own_weight, share_natural, weight_some}
-use Rattle.cpl_restart.specs.declared.whole.Whole.{Whole}
-use Rattle.cpl_restart.specs.States.{land_cell, land_cells, ocean_cells}
-use Rattle.cpl_restart.specs.Slow.{arrived, drained_cell, no_outlet, outlet_at, outlet_ocean, outlet_share, outlets_to, runoff_of, weights_of}
+use Rattle.cpl_state.specs.declared.whole.Whole.{Whole}
+use Rattle.cpl_state.specs.States.{land_cell, land_cells, ocean_cells}
+use Rattle.cpl_state.specs.Slow.{arrived, drained_cell, no_outlet, outlet_at, outlet_ocean, outlet_share, outlets_to, runoff_of, weights_of}
 use Rattle.cpl_slow.specs.declared.drains.Drain.{Drain}
 use Rattle.cpl_slow.specs.declared.drains.Drains.{Drains}
 use Rattle.cpl_slow.specs.Land.{gain_at}

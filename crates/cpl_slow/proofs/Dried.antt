@@ -9,12 +9,11 @@ use Rattle.cpl_land.specs.declared.cell.LandCell.{LandCell}
 use Rattle.cpl_land.specs.Land.{IsLandCell, dried, runoff}
 use Rattle.cpl_xgrid.specs.declared.grid.Grid.{Grid}
 use Rattle.cpl_xgrid.specs.Grids.{IsGrid}
-use Rattle.cpl_restart.specs.declared.whole.Whole.{Whole}
-use Rattle.cpl_restart.specs.States.{land_cell, land_cells}
-use Rattle.cpl_restart.specs.FastStep.{for_each}
-use Rattle.cpl_restart.specs.Slow.{runoff_of}
-use Rattle.cpl_slow.specs.Land.{cell_of_lists, gain_at, whole_with_land}
-use Rattle.cpl_slow.specs.declared.land.LandLists.{LandLists}
+use Rattle.cpl_state.specs.declared.whole.Whole.{Whole}
+use Rattle.cpl_state.specs.States.{land_cell, land_cells}
+use Rattle.cpl_state.specs.FastStep.{for_each}
+use Rattle.cpl_state.specs.Slow.{runoff_of}
+use Rattle.cpl_slow.specs.Land.{cell_of_lists, gain_at}
 use Rattle.cpl_slow.specs.Steps.{CanDrain}
 
 module _ (grid : Grid) (is : IsGrid grid) (rates : Rates) (whole : Whole) (can : CanDrain grid rates whole) (heat water area : List ℤ) (heat_is : heat ≡ whole.land_heat) (water_is : water ≡ whole.land_water) (area_is : area ≡ grid.land.area) where
@@ -43,9 +42,3 @@ module _ (grid : Grid) (is : IsGrid grid) (rates : Rates) (whole : Whole) (can :
       → (n : ℕ) → n < land_cells grid → gain_at gains n ≡ runoff_of grid rates whole n
   unfolding runoff_of
   runoffs_after gains new e h n l = ap (λ (xs : List Gain). gain_at xs n) e ∙ h n (omega (arith, area_long)) ∙ ap (runoff rates) (same_cell n)
-
--- the lists of the land, put back into the state that they were taken from
-pub put_back : (whole out back : Whole) (spare lists : LandLists) (heat water : List ℤ) → back ≡ whole_with_land out lists → out ≡ whole_with_land whole spare
-    → lists.heat.items ≡ heat → lists.water.items ≡ water → back ≡ record whole { land_heat = heat; land_water = water }
-put_back whole out back spare lists heat water e f g h =
-    e ∙ ap (λ (w : Whole). whole_with_land w lists) f ∙ (λ i. record whole { land_heat = g i; land_water = h i })

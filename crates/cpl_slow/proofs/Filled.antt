@@ -5,7 +5,7 @@ use Rattle.std.proofs.lemmas.Bool.{cases_lt, lt-ltb, le-ltb}
 use Rattle.std.proofs.lemmas.List.{get_or_past}
 use Rattle.std.proofs.lemmas.List.FromFn.{get_or-map-range_with_len, length-map-range_with_len}
 use Rattle.cpl_fixed.specs.Amounts.{at}
-use Rattle.cpl_restart.specs.States.{HasNone, filled_up, of_cell}
+use Rattle.cpl_state.specs.States.{HasNone, filled_up, of_cell}
 use Rattle.cpl_slow.specs.Blocks.{IsPut}
 
 filled_at : (most width n : ℕ) (xs : List ℤ) (k : ℕ) → k < most → at (filled_up most width n xs) k ≡ cond (ltb k width) (of_cell width n k xs) (pos 0)

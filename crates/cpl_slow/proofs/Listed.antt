@@ -13,8 +13,8 @@ use Rattle.cpl_xgrid.specs.Grids.{IsGrid}
 use Rattle.cpl_xgrid.proofs.CellNumbers.{test_agrees}
 use Rattle.cpl_laws.proofs.Outlets.{outlet_in}
 use Rattle.cpl_laws.proofs.Weights.{measured_more, measured_natural}
-use Rattle.cpl_restart.specs.States.{land_cells}
-use Rattle.cpl_restart.specs.Slow.{no_outlet, outlet_at, drained_cell, weight_before, weights_of}
+use Rattle.cpl_state.specs.States.{land_cells}
+use Rattle.cpl_state.specs.Slow.{no_outlet, outlet_at, drained_cell, weight_before, weights_of}
 use Rattle.cpl_slow.specs.declared.drains.Drain.{Drain}
 use Rattle.cpl_slow.specs.Drains.{AreDrainsTo, IsDrain, drain_at}
 use Rattle.cpl_slow.proofs.Weights.{weights_most}

@@ -12,9 +12,9 @@ use Rattle.cpl_ice.specs.declared.parts.Salty.{Salty}
 use Rattle.cpl_ice.specs.Cells.{IsIceCell, IsSalty, nothing}
 use Rattle.cpl_ice.specs.Slow.{CanSlow, returned, slowed}
 use Rattle.cpl_ice.proofs.Totals.{total_least}
-use Rattle.cpl_restart.specs.declared.whole.Mid.{Mid}
-use Rattle.cpl_restart.specs.States.{categories, ice_cell}
-use Rattle.cpl_restart.specs.Slow.{returned_if_wet, slowed_if_wet}
+use Rattle.cpl_state.specs.declared.whole.Mid.{Mid}
+use Rattle.cpl_state.specs.States.{categories, ice_cell}
+use Rattle.cpl_state.specs.Slow.{returned_if_wet, slowed_if_wet}
 use Rattle.cpl_slow.specs.declared.ice.IceLists.{IceLists}
 use Rattle.cpl_slow.specs.Ice.{IsBare, IsCellPut, with_ice}
 use Rattle.cpl_slow.proofs.Bare.{IsBareCell, bare_slowed}

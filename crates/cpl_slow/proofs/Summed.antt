@@ -4,8 +4,8 @@ use Rattle.std.specs.Prelude.{ℤ, ◌+ℤ◌}
 use Rattle.std.proofs.lemmas.Int.{ints}
 use Rattle.cpl_fixed.specs.Totals.{total_of}
 use Rattle.cpl_fixed.specs.declared.gain.Gain.{Gain}
-use Rattle.cpl_restart.specs.FastStep.{for_each}
-use Rattle.cpl_restart.specs.SlowLaws.{IsGainAmount}
+use Rattle.cpl_state.specs.FastStep.{for_each}
+use Rattle.cpl_state.specs.SlowLaws.{IsGainAmount}
 use Rattle.cpl_diffusion.proofs.Sums.{sum_to}
 use Rattle.cpl_laws.proofs.Sums.{total_range, cells_same}
 use Rattle.cpl_slow.specs.Land.{gain_at}

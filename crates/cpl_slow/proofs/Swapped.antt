@@ -3,8 +3,8 @@ use Rattle.std.proofs.Common.{◌≡◌, ◌∙◌, sym, ap, subst, List, length
 use Rattle.cpl_fixed.specs.declared.gain.Gain.{Gain}
 use Rattle.cpl_fixed.specs.declared.rates.Rates.{Rates}
 use Rattle.cpl_xgrid.specs.declared.grid.Grid.{Grid}
-use Rattle.cpl_restart.specs.declared.whole.Whole.{Whole}
-use Rattle.cpl_restart.specs.declared.whole.Mid.{Mid}
+use Rattle.cpl_state.specs.declared.whole.Whole.{Whole}
+use Rattle.cpl_state.specs.declared.whole.Mid.{Mid}
 use Rattle.cpl_slow.specs.declared.ice.IceLists.{IceLists}
 use Rattle.cpl_slow.specs.Ice.{AllCanSlow, AreIceLists, AreSlowed, HoldIce, whole_with_ice, with_ice}
 use Rattle.cpl_slow.specs.Steps.{HasIce, with_slow_ice}

@@ -7,10 +7,10 @@ use Rattle.cpl_fixed.specs.declared.gain.Gain.{Gain}
 use Rattle.cpl_fixed.specs.declared.rates.Rates.{Rates}
 use Rattle.cpl_xgrid.specs.declared.grid.Grid.{Grid}
 use Rattle.cpl_ice.specs.declared.cell.IceCell.{IceCell}
-use Rattle.cpl_restart.specs.declared.whole.Mid.{Mid}
-use Rattle.cpl_restart.specs.States.{categories, ice_cell, ocean_cells, part_count}
-use Rattle.cpl_restart.specs.FastStep.{for_each}
-use Rattle.cpl_restart.specs.Slow.{returned_if_wet, slow_cell, slowed_if_wet, to_ocean_number}
+use Rattle.cpl_state.specs.declared.whole.Mid.{Mid}
+use Rattle.cpl_state.specs.States.{categories, ice_cell, ocean_cells, part_count}
+use Rattle.cpl_state.specs.FastStep.{for_each}
+use Rattle.cpl_state.specs.Slow.{returned_if_wet, slow_cell, slowed_if_wet, to_ocean_number}
 use Rattle.cpl_slow.specs.declared.ice.IceLists.{IceLists}
 use Rattle.cpl_slow.specs.Blocks.{IsPartWay, IsPut}
 use Rattle.cpl_slow.specs.Land.{gain_at}

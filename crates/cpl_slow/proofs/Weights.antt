@@ -9,7 +9,7 @@ use Rattle.cpl_mosaic.specs.declared.parts.CellId.{CellId}
 use Rattle.cpl_mosaic.specs.Sides.{is_same_cell}
 use Rattle.cpl_xgrid.specs.declared.parts.Outlet.{Outlet}
 use Rattle.cpl_laws.proofs.Weights.{measured_first}
-use Rattle.cpl_restart.specs.Slow.{weights_of}
+use Rattle.cpl_state.specs.Slow.{weights_of}
 
 -- weights of outlets are in range
 abbrev pub HasWeight : Outlet → Type 0

@@ -6,11 +6,11 @@ use Rattle.cpl_fixed.specs.declared.rates.Rates.{Rates}
 use Rattle.cpl_xgrid.specs.declared.grid.Grid.{Grid}
 use Rattle.cpl_xgrid.proofs.Offsets.{same_range}
 use Rattle.cpl_ice.specs.Slow.{CanSlow}
-use Rattle.cpl_restart.specs.declared.whole.Whole.{Whole}
-use Rattle.cpl_restart.specs.declared.whole.Mid.{Mid}
-use Rattle.cpl_restart.specs.States.{IsMid, categories, ice_cell, ocean_cells, part_count}
-use Rattle.cpl_restart.specs.Slow.{for_each_place, returned_at, returned_if_wet, slow_after, slow_cell, to_ocean_number}
-use Rattle.cpl_restart.specs.SlowLaws.{KeepsSlow}
+use Rattle.cpl_state.specs.declared.whole.Whole.{Whole}
+use Rattle.cpl_state.specs.declared.whole.Mid.{Mid}
+use Rattle.cpl_state.specs.States.{IsMid, categories, ice_cell, ocean_cells, part_count}
+use Rattle.cpl_state.specs.Slow.{for_each_place, returned_at, returned_if_wet, slow_after, slow_cell, to_ocean_number}
+use Rattle.cpl_state.specs.SlowLaws.{KeepsSlow}
 use Rattle.cpl_slow.specs.Ice.{AllCanSlow, back_of}
 use Rattle.cpl_slow.specs.Steps.{HasArrived, HasIce, with_dry_land, with_slow_ice}
 

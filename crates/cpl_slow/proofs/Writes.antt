@@ -8,8 +8,8 @@ use Rattle.std.proofs.lemmas.Bool.{cases_lt, lt-ltb, le-ltb}
 use Rattle.std.proofs.lemmas.List.{get_or-set_same, get_or-set_other, length-set}
 use Rattle.std.proofs.lemmas.List.FromFn.{fill_by_all}
 use Rattle.cpl_fixed.specs.Amounts.{at}
-use Rattle.cpl_restart.specs.States.{of_cell, filled_up}
-use Rattle.cpl_restart.specs.FastStep.{for_each}
+use Rattle.cpl_state.specs.States.{of_cell, filled_up}
+use Rattle.cpl_state.specs.FastStep.{for_each}
 use Rattle.cpl_slow.specs.Blocks.{IsPut, IsPartWay}
 
 -- once f n is written at n, all places up to n have it

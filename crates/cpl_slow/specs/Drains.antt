@@ -6,8 +6,8 @@ use Rattle.cpl_fixed.specs.declared.gain.Gain.{Gain}
 use Rattle.cpl_fixed.specs.declared.limits.TheConstants.{MOST_TOTAL}
 use Rattle.cpl_mosaic.specs.Cells.{number_of, cell_of}
 use Rattle.cpl_xgrid.specs.declared.grid.Grid.{Grid}
-use Rattle.cpl_restart.specs.States.{land_cells}
-use Rattle.cpl_restart.specs.Slow.{drained_cell, outlet_at, weight_before, weights_of}
+use Rattle.cpl_state.specs.States.{land_cells}
+use Rattle.cpl_state.specs.Slow.{drained_cell, outlet_at, weight_before, weights_of}
 use Rattle.cpl_slow.specs.declared.drains.Drain.{Drain}
 use Rattle.cpl_slow.specs.declared.drains.Drains.{Drains}
 use Rattle.cpl_slow.specs.Land.{gain_at}

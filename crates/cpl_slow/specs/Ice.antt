@@ -9,10 +9,10 @@ use Rattle.cpl_ice.specs.declared.cell.IceCell.{IceCell}
 use Rattle.cpl_ice.specs.declared.parts.Salty.{Salty}
 use Rattle.cpl_ice.specs.Cells.{IsIceCell}
 use Rattle.cpl_ice.specs.Slow.{CanSlow}
-use Rattle.cpl_restart.specs.declared.whole.Whole.{Whole}
-use Rattle.cpl_restart.specs.declared.whole.Mid.{Mid}
-use Rattle.cpl_restart.specs.States.{IsOnOcean, categories, ice_cell, ocean_cells, of_cell, part_count}
-use Rattle.cpl_restart.specs.Slow.{for_each_place, returned_if_wet, slow_cell, to_ocean_number}
+use Rattle.cpl_state.specs.declared.whole.Whole.{Whole}
+use Rattle.cpl_state.specs.declared.whole.Mid.{Mid}
+use Rattle.cpl_state.specs.States.{IsOnOcean, categories, ice_cell, ocean_cells, of_cell, part_count}
+use Rattle.cpl_state.specs.Slow.{for_each_place, returned_if_wet, slow_cell, to_ocean_number}
 use Rattle.cpl_slow.specs.declared.ice.IceLists.{IceLists}
 use Rattle.cpl_slow.specs.Blocks.{IsPartWay, IsPut}
 use Rattle.cpl_slow.specs.Land.{gain_at}

@@ -2,7 +2,6 @@ pub mod Blocks
 pub mod Land
 pub mod Drains
 pub mod Ice
-pub mod Flights
 pub mod Rooms
 pub mod Sums
 pub mod Steps

@@ -1,8 +1,8 @@
 -- Room for the slow part, and lists for the flights.
 use Rattle.std.specs.Prelude.{◌≡◌, ◌*◌, length}
 use Rattle.cpl_xgrid.specs.declared.grid.Grid.{Grid}
-use Rattle.cpl_restart.specs.declared.whole.Mid.{Mid}
-use Rattle.cpl_restart.specs.States.{land_cells, ocean_cells}
+use Rattle.cpl_state.specs.declared.whole.Mid.{Mid}
+use Rattle.cpl_state.specs.States.{land_cells, ocean_cells}
 use Rattle.cpl_slow.specs.declared.room.SlowRoom.{SlowRoom}
 use Rattle.cpl_slow.specs.Drains.{AreDrains}
 

@@ -5,12 +5,12 @@ use Rattle.cpl_fixed.specs.declared.gain.Gain.{Gain}
 use Rattle.cpl_fixed.specs.declared.rates.Rates.{Rates}
 use Rattle.cpl_xgrid.specs.declared.grid.Grid.{Grid}
 use Rattle.cpl_land.specs.Land.{IsLandCell, dried}
-use Rattle.cpl_restart.specs.declared.whole.Whole.{Whole}
-use Rattle.cpl_restart.specs.declared.whole.Mid.{Mid}
-use Rattle.cpl_restart.specs.States.{categories, land_cell, land_cells, ocean_cells, part_count}
-use Rattle.cpl_restart.specs.FastStep.{for_each}
-use Rattle.cpl_restart.specs.Slow.{arrived, for_each_place, slow_cell, to_ocean_number}
-use Rattle.cpl_restart.specs.SlowLaws.{IsGainAmount}
+use Rattle.cpl_state.specs.declared.whole.Whole.{Whole}
+use Rattle.cpl_state.specs.declared.whole.Mid.{Mid}
+use Rattle.cpl_state.specs.States.{categories, land_cell, land_cells, ocean_cells, part_count}
+use Rattle.cpl_state.specs.FastStep.{for_each}
+use Rattle.cpl_state.specs.Slow.{arrived, for_each_place, slow_cell, to_ocean_number}
+use Rattle.cpl_state.specs.SlowLaws.{IsGainAmount}
 use Rattle.cpl_slow.specs.Land.{gain_at}
 use Rattle.cpl_slow.specs.Ice.{AreSkins, back_of}
 

@@ -1,6 +1,6 @@
 // Blocks of lists: the numbers of a cell, where each cell has as many in turn.
 ghost use Rattle.std.specs.Prelude.{◌≡◌, ◌+◌, ◌*◌, ◌<◌, ◌≤◌, ◌↔◌, length, IsTrue};
-ghost use Rattle.cpl_restart.specs.States.{HasNone, filled_up};
+ghost use Rattle.cpl_state.specs.States.{HasNone, filled_up};
 ghost use Rattle.cpl_slow.specs.Blocks.{IsPut};
 
 // The numbers of the n-th cell, filled up with zeros.

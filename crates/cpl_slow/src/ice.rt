@@ -6,15 +6,15 @@ ghost use Rattle.cpl_fixed.specs.declared.limits.TheConstants.{MOST_TOTAL};
 ghost use Rattle.cpl_xgrid.specs.Grids.{IsGrid};
 ghost use Rattle.cpl_ice.specs.Cells.{IsIceCell, IsSalty};
 ghost use Rattle.cpl_ice.specs.Slow.{CanSlow, returned, slowed};
-ghost use Rattle.cpl_restart.specs.States.{IsWet, categories, ice_cell, ocean_cells, skin_of};
-ghost use Rattle.cpl_restart.specs.Slow.{returned_if_wet, slowed_if_wet};
+ghost use Rattle.cpl_state.specs.States.{IsWet, categories, ice_cell, ocean_cells, skin_of};
+ghost use Rattle.cpl_state.specs.Slow.{returned_if_wet, slowed_if_wet};
 ghost use Rattle.cpl_slow.specs.Land.{gain_at};
 ghost use Rattle.cpl_slow.specs.Ice.{AllCanSlow, AreIceLists, AreSkins, AreSlowed, CanSlowCell, HoldIce, IsBare, IsCellPut, IsTurned, whole_with_ice, with_ice};
 
 use crate::blocks::{filled_up, has_none, put};
 use cpl_fixed::{Gain, PARTS, Rates};
 use cpl_ice::{IceCell, NOTHING, Salty};
-use cpl_restart::{Mid, Whole};
+use cpl_state::{Mid, Whole};
 use cpl_xgrid::Grid;
 use std::alloc::Global;
 

@@ -3,38 +3,10 @@ ghost use Rattle.std.specs.Prelude.{◌≡◌, ◌<◌, ℕ, length};
 ghost use Rattle.cpl_fixed.specs.Ranges.{AreRates};
 ghost use Rattle.cpl_land.specs.Land.{IsLandCell, dried, runoff};
 ghost use Rattle.cpl_fixed.specs.Amounts.{at};
-ghost use Rattle.cpl_slow.specs.Land.{HoldLand, cell_of_lists, gain_at, whole_with_land};
+ghost use Rattle.cpl_slow.specs.Land.{cell_of_lists, gain_at};
 
 use cpl_fixed::{Gain, Rates};
 use cpl_land::LandCell;
-use cpl_restart::Whole;
-use std::alloc::Global;
-
-/// The lists of the land while they change.
-#[derive(Drop)]
-pub(crate) struct LandLists {
-    pub(crate) heat: Vec<i64>,
-    pub(crate) water: Vec<i64>,
-}
-
-impl LandLists {
-    // No lists yet. It takes no memory.
-    pub(crate) fn new(alloc: Global) -> LandLists {
-        LandLists {
-            heat: Vec::new(alloc),
-            water: Vec::new(alloc),
-        }
-    }
-
-    /// Changes places with the lists of a state.
-    pub(crate) fn swap(&mut self, whole: &mut Whole)
-        ensures whole { whole.new ≡ whole_with_land whole.old self.old }
-        ensures lists { HoldLand whole.old self.new }
-    {
-        whole.land_heat.swap(&mut self.heat);
-        whole.land_water.swap(&mut self.water);
-    }
-}
 
 // Each cell gives its runoff.
 pub(crate) fn run_off(

@@ -7,8 +7,6 @@ ghost use Rattle.cpl_slow.specs.Sums.{AreGains, gain_sums};
 
 use crate::drains::{Drains, NO_GAIN, drains_of};
 use crate::ice::IceLists;
-use crate::land::LandLists;
-use crate::take::FlightLists;
 use crate::tally::{SlowTally, gain_sums};
 use cpl_fixed::Gain;
 use cpl_xgrid::Grid;
@@ -21,10 +19,7 @@ pub struct SlowRoom {
     pub(crate) drains: Drains,
     pub(crate) runoffs: Vec<Gain>,
     pub(crate) arrived: Vec<Gain>,
-    pub(crate) land: LandLists,
     pub(crate) ice: IceLists,
-    pub(crate) flights: FlightLists,
-    pub(crate) spare: Vec<i64>,
 }
 
 impl SlowRoom {
@@ -40,10 +35,7 @@ impl SlowRoom {
             drains: drains_of(alloc, grid)?,
             runoffs: vec![in alloc; NO_GAIN; lands]?,
             arrived: vec![in alloc; NO_GAIN; oceans]?,
-            land: LandLists::new(alloc),
             ice: IceLists::new(alloc),
-            flights: FlightLists::new(alloc),
-            spare: Vec::new(alloc),
         })
     }
 

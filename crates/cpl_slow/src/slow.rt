@@ -3,9 +3,9 @@ ghost use Rattle.std.specs.Prelude.{◌≡◌};
 ghost use Rattle.cpl_fixed.specs.Ranges.{AreRates};
 ghost use Rattle.cpl_xgrid.specs.Grids.{IsGrid};
 ghost use Rattle.cpl_laws.specs.Once.{IsNumbered};
-ghost use Rattle.cpl_restart.specs.States.{land_cells, ocean_cells};
-ghost use Rattle.cpl_restart.specs.Slow.{arrived, runoff_of, slow_after};
-ghost use Rattle.cpl_restart.specs.SlowLaws.{CanSlowAll, KeepsSlow};
+ghost use Rattle.cpl_state.specs.States.{land_cells, ocean_cells};
+ghost use Rattle.cpl_state.specs.Slow.{arrived, runoff_of, slow_after};
+ghost use Rattle.cpl_state.specs.SlowLaws.{CanSlowAll, KeepsSlow};
 ghost use Rattle.cpl_slow.specs.Ice.{AllCanSlow};
 ghost use Rattle.cpl_slow.specs.Rooms.{IsSlowRoom};
 ghost use Rattle.cpl_slow.specs.Sums.{HasRunOff, gain_sums};
@@ -15,7 +15,7 @@ use crate::land::run_off;
 use crate::room::SlowRoom;
 use crate::tally::SlowTally;
 use cpl_fixed::Rates;
-use cpl_restart::{Mid, Whole};
+use cpl_state::{Mid, Whole};
 use cpl_xgrid::Grid;
 
 // The land gives its runoff, which the outlets bring to the cells of the ocean's mosaic.
@@ -29,15 +29,13 @@ fn drain_land(grid: &Grid, rates: &Rates, whole: &mut Whole, room: &mut SlowRoom
     ensures arrived { HasArrived grid.now rates.now whole.old room.new.arrived.items }
     ensures room { IsSlowRoom grid.now room.new }
 {
-    room.land.swap(whole);
     run_off(
         grid.land.area.as_slice(),
         rates,
-        &mut room.land.heat,
-        &mut room.land.water,
+        whole.land_heat.as_mut_slice(),
+        whole.land_water.as_mut_slice(),
         &mut room.runoffs,
     );
-    room.land.swap(whole);
     room.drains.bring(&room.runoffs, &mut room.arrived);
 }
 

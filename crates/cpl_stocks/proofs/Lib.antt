@@ -1,3 +1,6 @@
+mod PartialRows
+mod PartialSums
+mod PartialWords
 mod Pushed
 mod RowLines
 mod Writing

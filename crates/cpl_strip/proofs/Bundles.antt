@@ -65,7 +65,7 @@ pub record Given {T : Type 0} (taken : ℕ → ℕ → Option (ℕ × T)) (count
   pub found : (n m : ℕ) (x : T) → n < pieces * pieces → m < counts (n % pieces) → taken (n % pieces) m ≡ Some (n / pieces, x) → (k : ℕ) × (k < length (get_or table n [])) × (which n k ≡ m)
 
 -- what a pair's list holds
-holds : {T : Type 0} (taken : ℕ → ℕ → Option (ℕ × T)) (counts : ℕ → ℕ) (pieces : ℕ) (table : List (List T)) (n : ℕ) → 1 ≤ pieces → IsFilled taken counts pieces pieces 0 table → n < pieces * pieces → get_or table n [] ≡ gifts taken (n / pieces) (n % pieces) (counts (n % pieces))
+pub holds : {T : Type 0} (taken : ℕ → ℕ → Option (ℕ × T)) (counts : ℕ → ℕ) (pieces : ℕ) (table : List (List T)) (n : ℕ) → 1 ≤ pieces → IsFilled taken counts pieces pieces 0 table → n < pieces * pieces → get_or table n [] ≡ gifts taken (n / pieces) (n % pieces) (counts (n % pieces))
 holds taken counts pieces table n some is below =
     let pair = is_pair pieces n some below in
     ap (λ k. get_or table k []) (sym pair.number) ∙ filled_all taken counts pieces (n / pieces) (n % pieces) table is pair.from pair.to

@@ -3,6 +3,8 @@ pub mod Filled
 pub mod Walked
 pub mod HoleNumbers
 pub mod Bundles
+pub mod Pairs
 pub mod Strung
 pub mod Edges
 pub mod Faced
+pub mod Listed

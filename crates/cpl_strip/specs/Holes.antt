@@ -6,6 +6,7 @@ use Rattle.cpl_mosaic.specs.Lists.{MosaicLists}
 use Rattle.cpl_mosaic.specs.Sides.{CellSide}
 use Rattle.cpl_mosaic.specs.Mates.{walk_of}
 use Rattle.cpl_layout.specs.declared.piece.Piece.{Piece}
+pub use Rattle.cpl_layout.specs.Owners.{edge_place}
 use Rattle.cpl_layout.specs.Owners.{cell_in}
 use Rattle.cpl_strip.specs.declared.parts.Hole.{Hole}
 
@@ -15,13 +16,6 @@ edge_of piece W = piece.ny
 edge_of piece E = piece.ny
 edge_of piece S = piece.nx
 edge_of piece N = piece.nx
-
--- the place of the k-th cell along an edge of a piece: by row along W and E, by column along S and N
-abbrev pub edge_place : Piece → Side → ℕ → ℕ × ℕ
-edge_place piece W k = (0, k)
-edge_place piece E k = (piece.nx - 1, k)
-edge_place piece S k = (k, 0)
-edge_place piece N k = (k, piece.ny - 1)
 
 -- a hole of a piece with halos of this width
 pub record IsHoleOf (piece : Piece) (width : ℕ) (hole : Hole) : Type 0 where

@@ -4,3 +4,4 @@ pub mod Faces
 pub mod Tables
 pub mod Rounds
 pub mod Taken
+pub mod Between

@@ -1,11 +1,16 @@
 -- A table by pairs of pieces, filled by the pieces that take, one after the other.
 use Rattle.std.specs.Prelude.{◌≡◌, ℕ, zero, suc, ◌+◌, ◌*◌, ◌/◌, ◌%◌, ◌<◌, ◌==◌, nat_lt, List, [], ◌∷◌, ◌++◌, length, Option, Some, None, if◌then◌else◌, slice_index_or}
+use Rattle.std.specs.List.{range_with_len, flat_map}
 use Rattle.std.specs.Option.{option_to_list}
 
 -- what f gives of 0 to k - 1, in order, without those of which it gives nothing
 abbrev pub picks : {Y : Type 0} → (ℕ → Option Y) → ℕ → List Y
 picks f zero = []
 picks f (suc k) = picks f k ++ option_to_list (f k)
+
+-- what f gives of each pair of pieces: by the first piece, then the second
+abbrev pub for_pairs : {Y : Type 0} → ℕ → (ℕ → ℕ → Option Y) → List Y
+for_pairs pieces f = flat_map (λ from. picks (f from) pieces) (range_with_len 0 pieces)
 
 -- what is taken from a piece, if it is taken from this one
 abbrev pub given : {T : Type 0} → ℕ → Option (ℕ × T) → Option T

@@ -8,6 +8,7 @@ ghost use Rattle.cpl_layout.specs.Owners.{IsPieceOf};
 ghost use Rattle.cpl_strip.specs.Holes.{IsHoleOf, side_at};
 ghost use Rattle.cpl_strip.specs.Faces.{AreFaceStrips, spot_of};
 ghost use Rattle.cpl_strip.specs.Tables.{IsFilled, picks, made_at};
+ghost use Rattle.cpl_strip.specs.Between.{face_strips_of};
 ghost use Rattle.cpl_strip.specs.Taken.{holes_in, comes, face_taken, side_takes, face_strip_made};
 
 use crate::holes::{edge_cell, hole_count, nth_hole, place_in};
@@ -161,7 +162,8 @@ pub fn face_strips(
     mosaic: &Mosaic,
 ) -> Result<Vec<FaceStrip>, AllocError>
     requires { layout.now.tiles ≡ mosaic.now.tiles }
-    ensures { IfOk result (λ strips. AreFaceStrips mosaic.now layout.now strips.items) }
+    ensures links { IfOk result (λ strips. AreFaceStrips mosaic.now layout.now strips.items) }
+    ensures exact { IfOk result (λ strips. strips.items ≡ face_strips_of mosaic.now layout.now) }
 {
     // The contract of `cells` has the limits of the tiles, and that mates agree.
     let _cells = mosaic.cells();

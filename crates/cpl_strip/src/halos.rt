@@ -7,6 +7,7 @@ ghost use Rattle.cpl_layout.specs.Owners.{IsPieceOf, OwnersAgree};
 ghost use Rattle.cpl_strip.specs.Holes.{IsHoleOf};
 ghost use Rattle.cpl_strip.specs.Strips.{AreStrips};
 ghost use Rattle.cpl_strip.specs.Tables.{IsFilled, picks, made_at};
+ghost use Rattle.cpl_strip.specs.Between.{strips_of};
 ghost use Rattle.cpl_strip.specs.Taken.{taken_by, hole_takes, holes_in, strip_made};
 
 use crate::holes::{edge_cell, hole_count, nth_hole, place_in};
@@ -137,7 +138,8 @@ pub fn strips(
 ) -> Result<Vec<Strip>, AllocError>
     requires tiles { layout.now.tiles ≡ mosaic.now.tiles }
     requires width { (1 ≤ width) × (width ≤ 2) }
-    ensures { IfOk result (λ strips. AreStrips mosaic.now layout.now width strips.items) }
+    ensures links { IfOk result (λ strips. AreStrips mosaic.now layout.now width strips.items) }
+    ensures exact { IfOk result (λ strips. strips.items ≡ strips_of mosaic.now layout.now width) }
 {
     // The contract of `cells` has the limits of the tiles, and that mates agree.
     let _cells = mosaic.cells();

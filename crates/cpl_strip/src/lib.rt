@@ -4,9 +4,11 @@
 mod faces;
 mod halos;
 mod holes;
+mod laws;
 mod parts;
 mod table;
 
 pub use faces::face_strips;
 pub use halos::strips;
+pub use laws::{face_strips_law, strips_law};
 pub use parts::{FaceStrip, Hole, Strip};

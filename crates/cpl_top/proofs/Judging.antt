@@ -3,9 +3,9 @@ use Rattle.std.proofs.Common.{◌≡◌, ◌∙◌, sym, ap, subst, ℕ, List, O
 use Rattle.cpl_fixed.specs.declared.words.Quantity.TheVariants.{Heat, Water}
 use Rattle.cpl_mosaic.specs.declared.mosaic.Mesh.{Mesh}
 use Rattle.cpl_gridfile.specs.Reading.{air_grid_of}
-use Rattle.cpl_restart.specs.declared.air.Air.{Air}
+use Rattle.cpl_state.specs.declared.air.Air.{Air}
 use Rattle.cpl_restart.specs.AirBytes.{air_of}
-use Rattle.cpl_restart.specs.Diffusion.{cell_count, air_after}
+use Rattle.cpl_state.specs.Diffusion.{cell_count, air_after}
 use Rattle.cpl_top.specs.declared.output.Reply.{Reply}
 use Rattle.cpl_top.specs.declared.pieces.Pieces.{Pieces}
 use Rattle.cpl_fixed.specs.Results.{◌>>=◌, Fails}

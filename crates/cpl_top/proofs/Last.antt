@@ -3,7 +3,7 @@ use Rattle.std.proofs.Common.{◌≡◌, ◌∙◌, ap, subst, ℕ, zero, suc, �
 use Rattle.std.proofs.lemmas.List.{get_or-append-add}
 use Rattle.cpl_namelist.specs.declared.names.Names.{Names}
 use Rattle.cpl_xgrid.specs.declared.grid.Grid.{Grid}
-use Rattle.cpl_restart.specs.declared.whole.Whole.{Whole}
+use Rattle.cpl_state.specs.declared.whole.Whole.{Whole}
 use Rattle.cpl_stocks.specs.declared.rows.StockRow.{StockRow}
 use Rattle.cpl_whole.specs.Rows.{quantities, stock_row, stock_rows}
 use Rattle.cpl_whole.proofs.Tables.{stocks_first, stocks_more}

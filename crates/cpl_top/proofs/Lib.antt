@@ -8,3 +8,5 @@ pub mod Steps
 pub mod Outcomes
 pub mod Made
 pub mod Last
+pub mod Conserving
+pub mod Laid

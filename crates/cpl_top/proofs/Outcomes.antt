@@ -5,7 +5,7 @@ use Rattle.std.proofs.lemmas.List.{append_cancel_left}
 use Rattle.std.proofs.lemmas.List.Elements.{All-nil, All-cons}
 use Rattle.std.proofs.lemmas.List.Kept.{AllPairs-cons}
 use Rattle.cpl_plan.specs.Plans.{PlanParts}
-use Rattle.cpl_restart.specs.CouplingStep.{state_after}
+use Rattle.cpl_state.specs.CouplingStep.{state_after}
 use Rattle.cpl_whole.specs.declared.run.Outcome.{Outcome}
 use Rattle.cpl_whole.specs.Rows.{stock_rows, exchange_rows}
 use Rattle.cpl_stocks.specs.Tables.{stocks_text, exchanges_text}

@@ -2,7 +2,7 @@
 use Rattle.std.specs.Prelude.{ℕ, ◌+◌, List, [], ◌∷◌, ◌++◌, length, codes, decimal}
 use Rattle.cpl_mosaic.specs.declared.mosaic.Mesh.{Mesh}
 use Rattle.cpl_xgrid.specs.declared.grid.Grid.{Grid}
-use Rattle.cpl_restart.specs.Diffusion.{cell_count}
+use Rattle.cpl_state.specs.Diffusion.{cell_count}
 use Rattle.cpl_top.specs.declared.counts.Kind.TheVariants as kind
 use Rattle.cpl_top.specs.declared.counts.Counts.{Counts}
 

@@ -1,10 +1,13 @@
 -- What a command leaves of the files and of the line, for each status.
-use Rattle.std.specs.Prelude.{◌≡◌, ◌≢◌, ℕ, ◌+◌, ◌<◌, List, ◌++◌, length, take, All}
+use Rattle.std.specs.Prelude.{◌≡◌, ◌≢◌, ℕ, ◌+◌, ◌<◌, List, ◌++◌, length, take, All, Bool, Option}
 use Rattle.std.specs.List.{HoldsAt}
 use Rattle.std.specs.FinMap.{get}
 use Rattle.cpl_io.specs.Files.{Files, Has}
 use Rattle.cpl_io.specs.Sink.{AppendsFront}
+use Rattle.cpl_top.specs.Failures.{ComesToReply}
+use Rattle.cpl_top.specs.Reads.{Reads}
 use Rattle.cpl_top.specs.declared.output.Output.{Output}
+use Rattle.cpl_top.specs.declared.output.Reply.{Reply}
 use Rattle.cpl_top.specs.declared.status.Which.{Which}
 use Rattle.cpl_top.specs.declared.status.Status.{Status}
 use Rattle.cpl_top.specs.declared.status.Status.TheVariants as status
@@ -40,3 +43,7 @@ IsSilent status.Done = ⊥
 IsSilent status.Print = ⊥
 IsSilent status.Memory = ⊥
 IsSilent _ = Unit {0}
+
+-- the line was printed of a reply that the command's walk comes to
+abbrev pub PrintsReply : Bool → Files → Option Reads → (old new : List ℕ) → Type 0
+PrintsReply told files command old new = (reply : Reply) × ComesToReply told files command reply × (new ≡ old ++ reply.line)

@@ -13,6 +13,7 @@ pub mod Solo
 pub mod Planned
 pub mod Runs
 pub mod Whole
+pub mod Conserving
 pub mod Make
 pub mod Summary
 pub mod Commands

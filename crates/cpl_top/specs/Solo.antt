@@ -7,9 +7,9 @@ use Rattle.cpl_fixed.specs.declared.words.Component.TheVariants.{Atmos}
 use Rattle.cpl_fixed.specs.declared.words.Quantity.TheVariants.{Heat, Water}
 use Rattle.cpl_mosaic.specs.declared.parts.Tile.{Tile}
 use Rattle.cpl_gridfile.specs.Reading.{air_grid_of}
-use Rattle.cpl_restart.specs.declared.air.Air.{Air}
+use Rattle.cpl_state.specs.declared.air.Air.{Air}
 use Rattle.cpl_restart.specs.AirBytes.{air_of, air_bytes}
-use Rattle.cpl_restart.specs.Diffusion.{cell_count, air_after}
+use Rattle.cpl_state.specs.Diffusion.{cell_count, air_after}
 use Rattle.cpl_top.specs.Counts.{done_line}
 use Rattle.cpl_words.specs.Arguments.{number_of}
 use Rattle.cpl_top.specs.Words.{four_or_six_words}

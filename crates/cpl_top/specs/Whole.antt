@@ -1,7 +1,7 @@
 -- The command `whole`: the undivided run.
 use Rattle.std.specs.Prelude.{ℕ, List, Result, Ok, Option, Some}
 use Rattle.cpl_fixed.specs.Results.{◌>>=◌}
-use Rattle.cpl_restart.specs.CouplingStep.{state_after}
+use Rattle.cpl_state.specs.CouplingStep.{state_after}
 use Rattle.cpl_plan.specs.Plans.{PlanParts}
 use Rattle.cpl_whole.specs.declared.run.Outcome.{Outcome}
 use Rattle.cpl_whole.specs.Rows.{stock_rows, exchange_rows}

@@ -1,7 +1,7 @@
 // The budget: the greatest total of a quantity.
 ghost use Rattle.std.specs.Prelude.{◌≡◌, All, OnOk, pos, ◌≤ℤ◌};
 ghost use Rattle.cpl_fixed.specs.Totals.{total_of};
-ghost use Rattle.cpl_restart.specs.Numbers.{IsStored};
+ghost use Rattle.cpl_state.specs.Stored.{IsStored};
 ghost use Rattle.cpl_top.specs.Causes.{Answers};
 ghost use Rattle.cpl_top.specs.Judging.{budget};
 

@@ -12,7 +12,8 @@ use crate::{Output, Reply, Status, Which};
 use cpl_fixed::List;
 use cpl_gridfile::read_grid;
 use cpl_io::Shelf;
-use cpl_restart::{Whole, decode, encode};
+use cpl_restart::{decode, encode};
+use cpl_state::Whole;
 use std::alloc::{AllocError, Global};
 
 /// The arguments of `migrate`.

@@ -1,7 +1,7 @@
 // The command `solo`: the air alone, undivided or in pieces.
 ghost use Rattle.std.specs.Prelude.{◌≡◌, IfOk, IfSome};
 ghost use Rattle.std.specs.Option.{option_map};
-ghost use Rattle.cpl_restart.specs.Diffusion.{IsAirMesh, AreAmounts, air_after, cell_count};
+ghost use Rattle.cpl_state.specs.Diffusion.{IsAirMesh, AreAmounts, air_after, cell_count};
 ghost use Rattle.cpl_top.specs.Causes.{Answers};
 ghost use Rattle.cpl_top.specs.Pieces.{ArePieces};
 ghost use Rattle.cpl_top.specs.Reads.{Runs};
@@ -20,7 +20,8 @@ use cpl_gridfile::read_air;
 use cpl_io::Shelf;
 use cpl_layout::Layout;
 use cpl_mosaic::{Mesh, Mosaic};
-use cpl_restart::{Air, decode_air, encode_air};
+use cpl_restart::{decode_air, encode_air};
+use cpl_state::Air;
 use cpl_whole::run_solo;
 use cpl_words::number;
 use std::alloc::{AllocError, Global};

@@ -4,7 +4,8 @@ ghost use Rattle.cpl_io.specs.Causes.{Rose};
 ghost use Rattle.cpl_words.specs.Arguments.{texts};
 ghost use Rattle.cpl_top.specs.Replies.{outputs_of, line_of, status_of};
 ghost use Rattle.cpl_top.specs.Commands.{answer, command_of};
-ghost use Rattle.cpl_top.specs.Leaves.{LeavesFiles, LeavesLine, IsSilent};
+ghost use Rattle.cpl_top.specs.Conserving.{Conserves};
+ghost use Rattle.cpl_top.specs.Leaves.{LeavesFiles, LeavesLine, IsSilent, PrintsReply};
 ghost use Rattle.cpl_top.specs.Causes.{Agrees, ShelfFaults, SinkFaults};
 ghost use Rattle.cpl_top.specs.Failures.{FailedReading, FailedWriting};
 ghost use Rattle.cpl_top.specs.Prepared.{IsPrepared};
@@ -74,7 +75,13 @@ pub fn still_top<S: Shelf, K: Sink>(
     ensures line { IsTrue (S.told shelf.old) → IsTrue (K.told out.old)
         → LeavesLine result (line_of (answer (texts words.now) (S.files shelf.old)))
         (K.written out.old) (K.written out.new) }
+    // Done says what was printed, also where the shelf doesn't tell its files.
+    ensures printed { IsTrue (K.told out.old) → result ≡ Status.Done
+        → PrintsReply (S.told shelf.old) (S.files shelf.old) (command_of (texts words.now)) (K.written out.old) (K.written out.new) }
     ensures silent { IsTrue (K.told out.old) → IsSilent result → K.written out.new ≡ K.written out.old }
+
+    // Nothing is lost in a run: the rows of its tables balance and keep, and a run can go on from its restart.
+    ensures conserving { Conserves }
 
     // Where the outside is to blame, it failed in this call, at the file that is named.
     ensures read { (file : Which) → result ≡ Status.Read file

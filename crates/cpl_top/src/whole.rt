@@ -2,7 +2,7 @@
 ghost use Rattle.std.specs.Prelude.{◌≡◌, ◌≤◌, length, string_bytes, IfOk};
 ghost use Rattle.std.specs.Option.{option_map};
 ghost use Rattle.cpl_fixed.specs.declared.limits.TheConstants.{MOST_NAMES_BYTES};
-ghost use Rattle.cpl_restart.specs.States.{IsWhole};
+ghost use Rattle.cpl_state.specs.States.{IsWhole};
 ghost use Rattle.cpl_top.specs.Causes.{Answers};
 ghost use Rattle.cpl_top.specs.Reads.{Runs};
 ghost use Rattle.cpl_top.specs.Replies.{AreApart};

@@ -1,5 +1,5 @@
 // The rows: which calls fail, and what comes of it.
-use crate::column::{EXCHANGES, GRID, LAST, LINE, NAMES, START, STOCKS};
+use crate::column::{EXCHANGES, GRID, LAST, LINE, NAMES, SECOND, START, STOCKS};
 use cpl_io::{MemShelf, MemSink, Shelf, Sink};
 use cpl_top::{FileName, Status, Which, still_top};
 use std::alloc::{AllocError, Global};
@@ -7,7 +7,7 @@ use std::test::Fail;
 
 // A command: its words, the files that it reads, and those that it writes, each of which is there before with other bytes.
 struct Command {
-    words: [&'static str; 5],
+    words: &'static [&'static str],
     inputs: &'static [(&'static str, &'static [u8])],
     outputs: &'static [&'static str],
 }
@@ -28,7 +28,7 @@ const KEPT: &[u8] = b"kept";
 
 // Two cells of area 1 side by side: a mark, a section of the heats 100 and 0, and one of the vapours 0 and 0.
 const SOLO: Command = Command {
-    words: ["solo", "g", "s", "o", "1"],
+    words: &["solo", "g", "s", "o", "1"],
     inputs: &[
         (
             "g",
@@ -58,7 +58,7 @@ const SOLO_ROWS: [Row; 8] = [
 ];
 
 const WHOLE: Command = Command {
-    words: ["whole", "g", "n", "s", "o"],
+    words: &["whole", "g", "n", "s", "o"],
     inputs: &[("g", GRID), ("n", NAMES), ("s", START)],
     outputs: &["o.stocks", "o.exchanges", "o.restart"],
 };
@@ -112,6 +112,72 @@ const WHOLE_ROWS: [Row; 14] = [
     (&[12], &[0], Status::Print, &[STOCKS, EXCHANGES, LAST], b""),
     (&[12], &[1], Status::Done, &[STOCKS, EXCHANGES, LAST], LINE),
 ];
+
+const CHECK: Command = Command {
+    words: &["check", "g"],
+    inputs: &[("g", GRID)],
+    outputs: &[],
+};
+
+const CHECK_ROWS: [Row; 4] = [
+    (&[0], &[], Status::Read(Which::Grid), &[], b""),
+    (&[1], &[], Status::Read(Which::Grid), &[], b""),
+    (&[2], &[0], Status::Print, &[], b""),
+    (&[2], &[1], Status::Done, &[], b"grid coupled 1 1 1 2 1\n"),
+];
+
+// Two failing calls in one run: where the first ends the run, the second never comes. And an answer `Read(START)` after GRID
+// failed and was read again would be another status than this.
+const MIGRATE: Command = Command {
+    words: &["migrate", "g", "s", "o"],
+    inputs: &[("g", GRID), ("s", START)],
+    outputs: &["o.restart"],
+};
+
+const MIGRATE_ROWS: [Row; 10] = [
+    (&[0], &[], Status::Read(Which::Grid), &[KEPT], b""),
+    (&[1], &[], Status::Read(Which::Grid), &[KEPT], b""),
+    (&[2], &[], Status::Read(Which::Start), &[KEPT], b""),
+    (&[3], &[], Status::Read(Which::Start), &[KEPT], b""),
+    (&[4], &[], Status::Write(Which::Restart), &[KEPT], b""),
+    (&[5], &[], Status::Write(Which::Restart), &[b""], b""),
+    (&[6], &[0], Status::Print, &[SECOND], b""),
+    (&[6], &[1], Status::Done, &[SECOND], b"migrated 0\n"),
+    (&[0, 3], &[], Status::Read(Which::Grid), &[KEPT], b""),
+    (&[1, 2], &[0], Status::Read(Which::Grid), &[KEPT], b""),
+];
+
+// The three files of a made input aren't looked at here but where nothing was written yet.
+const MAKE: Command = Command {
+    words: &["make", "7", "1", "o"],
+    inputs: &[],
+    outputs: &["o.start", "o.nml", "o.grid"],
+};
+
+const MAKE_ROWS: [Row; 7] = [
+    (&[0], &[], Status::Write(Which::Grid), NONE, b""),
+    (
+        &[1],
+        &[],
+        Status::Write(Which::Grid),
+        &[KEPT, KEPT, b""],
+        b"",
+    ),
+    (&[2], &[], Status::Write(Which::Names), &[KEPT, KEPT], b""),
+    (&[3], &[], Status::Write(Which::Names), &[KEPT, b""], b""),
+    (&[4], &[], Status::Write(Which::Start), &[KEPT], b""),
+    (&[5], &[], Status::Write(Which::Start), &[b""], b""),
+    (&[6], &[0], Status::Print, &[], b""),
+];
+
+// Without a file nothing but the line can fail.
+const SUMMARY: Command = Command {
+    words: &["summary", "7", "1", "1"],
+    inputs: &[],
+    outputs: &["o.restart"],
+};
+
+const SUMMARY_ROWS: [Row; 1] = [(&[0], &[0], Status::Print, &[KEPT], b"")];
 
 fn words_of(alloc: Global, command: &Command) -> Result<Vec<String>, AllocError> {
     let mut words = Vec::new(alloc);
@@ -189,6 +255,25 @@ fn each_failing_call_of_solo_is_named(rt: HostRuntime) -> Result<(), Fail> {
 #[test]
 fn each_failing_call_of_whole_is_named(rt: HostRuntime) -> Result<(), Fail> {
     assert_eq!(rt; first_other(rt.alloc(), &WHOLE, &WHOLE_ROWS)?, None);
+    Ok(())
+}
+
+#[test]
+fn each_failing_call_of_check_is_named(rt: HostRuntime) -> Result<(), Fail> {
+    assert_eq!(rt; first_other(rt.alloc(), &CHECK, &CHECK_ROWS)?, None);
+    Ok(())
+}
+
+#[test]
+fn each_failing_call_of_migrate_is_named(rt: HostRuntime) -> Result<(), Fail> {
+    assert_eq!(rt; first_other(rt.alloc(), &MIGRATE, &MIGRATE_ROWS)?, None);
+    Ok(())
+}
+
+#[test]
+fn each_failing_call_of_make_and_summary_is_named(rt: HostRuntime) -> Result<(), Fail> {
+    assert_eq!(rt; first_other(rt.alloc(), &MAKE, &MAKE_ROWS)?, None);
+    assert_eq!(rt; first_other(rt.alloc(), &SUMMARY, &SUMMARY_ROWS)?, None);
     Ok(())
 }
 

@@ -4,6 +4,7 @@ use Rattle.std.specs.Prelude.{negsuc, unsigned_abs}
 use Rattle.std.proofs.lemmas.Int.{ints, clamps}
 use Rattle.cpl_fixed.specs.Amounts.{IsAmount, amount}
 use Rattle.cpl_ice.specs.declared.parts.Salty.{Salty}
+use Rattle.cpl_transport.specs.Heights.{IsFaceNumber}
 use Rattle.cpl_transport.specs.Moves.{carried, correction, given, moved, through}
 use Rattle.cpl_transport.specs.Salts.{AreEighths, AreOutflows, AreSmall, IsEighth, IsOutflow, IsSalty, IsSmall, nothing, turned}
 
@@ -76,6 +77,18 @@ enter here there given h k = record {
 pub through_outflow : (u : ℤ) (behind here there beyond : Salty) → IsSalty here → IsSalty there → AreOutflows here there (through u behind here there beyond)
 through_outflow (pos u) behind here there beyond h k = leave here there (given (pos u) behind here there) k (given_eighths (pos u) behind here there h)
 through_outflow (negsuc u) behind here there beyond h k = enter here there (given (negsuc u) beyond there here) h (given_eighths (negsuc u) beyond there here k)
+
+-- no more water moves than a number of a face may say
+pub moved_face : (u water : ℤ) → IsFaceNumber u → IsFaceNumber (pos (moved u water))
+moved_face (pos u) water h = (omega (arith, ints), omega (arith, ints, h.1))
+moved_face (negsuc u) water h = (omega (arith, ints), omega (arith, ints, h.0))
+
+pub other_way : (u : ℤ) → IsFaceNumber u → IsFaceNumber (neg_ℤ u)
+other_way u h = (omega (arith, ints, h.1), omega (arith, ints, h.0))
+
+pub through_face : (u : ℤ) (behind here there beyond : Salty) → IsFaceNumber u → IsFaceNumber (through u behind here there beyond).water
+through_face (pos u) behind here there beyond h = moved_face (pos u) here.water h
+through_face (negsuc u) behind here there beyond h = other_way (pos (moved (negsuc u) there.water)) (moved_face (negsuc u) there.water h)
 
 -- an eighth of an amount is small
 pub eighths_small : (there given : Salty) → IsSalty there → AreEighths there given → AreSmall given

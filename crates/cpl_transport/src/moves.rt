@@ -42,6 +42,7 @@ fn moved(u: i64, water: i64) -> i64
     requires water { IsAmount water }
     ensures value { result ≡ pos (moved u water) }
     ensures eighth { IsEighth water result }
+    ensures face { IsFaceNumber result }
 {
     u.unsigned_abs().min(water as u64 / 8) as i64
 }
@@ -103,6 +104,8 @@ pub fn given(u: i64, behind: Salty, here: Salty, ahead: Salty) -> Salty
     requires ahead { IsSalty ahead }
     ensures value { result ≡ given u behind here ahead }
     ensures eighths { AreEighths here result }
+    // No more water moves than a face's number may say.
+    ensures face { IsFaceNumber result.water }
 {
     let water = moved(u, here.water);
     Salty {
@@ -137,6 +140,8 @@ pub fn through(u: i64, behind: Salty, here: Salty, there: Salty, beyond: Salty) 
     ensures value { result ≡ through u behind here there beyond }
     ensures outflow { AreOutflows here there result }
     ensures small { AreSmall result }
+    // No more water moves, either way, than a face's number may say.
+    ensures face { IsFaceNumber result.water }
 {
     if u >= 0 {
         given(u, behind, here, there)
@@ -145,12 +150,14 @@ pub fn through(u: i64, behind: Salty, here: Salty, there: Salty, beyond: Salty) 
     }
 }
 
-/// What moves through a face is seen from both of its sides, with opposite signs. Neither cell gives more than an eighth.
+/// What moves through a face is seen from both of its sides, with opposite signs. Neither cell gives more than an eighth, and no
+/// more water than the number of a face may say: 2^40.
 pub fn through_law()
     ensures turned { (u : ℤ) (behind here there beyond : Salty)
         → through (neg_ℤ u) beyond there here behind ≡ turned (through u behind here there beyond) }
     ensures outflow { (u : ℤ) (behind here there beyond : Salty) → IsSalty here → IsSalty there
         → AreOutflows here there (through u behind here there beyond) }
+    ensures face { (u : ℤ) (behind here there beyond : Salty) → IsFaceNumber u → IsFaceNumber (through u behind here there beyond).water }
 {}
 
 /// At a wall behind a cell, where the cell stands for the one behind, nothing is corrected.

@@ -10,20 +10,20 @@ use Rattle.cpl_fixed.specs.declared.words.Quantity.TheVariants.{Heat, Water, Sal
 use Rattle.cpl_namelist.specs.declared.names.Names.{Names}
 use Rattle.cpl_namelist.specs.Civil.{Fits}
 use Rattle.cpl_xgrid.specs.declared.grid.Grid.{Grid}
-use Rattle.cpl_restart.specs.declared.whole.Whole.{Whole}
-use Rattle.cpl_restart.specs.States.{IsWhole}
-use Rattle.cpl_restart.specs.Stocks.{held}
-use Rattle.cpl_restart.specs.Budget.{IsWithinBudget, budget_of, greatest, most_sun, sun_of_strength}
-use Rattle.cpl_restart.specs.CouplingStep.{state_after, step_after, step_entered, step_left}
+use Rattle.cpl_state.specs.declared.whole.Whole.{Whole}
+use Rattle.cpl_state.specs.States.{IsWhole}
+use Rattle.cpl_state.specs.Stocks.{held}
+use Rattle.cpl_state.specs.Budget.{IsWithinBudget, budget_of, greatest, most_sun, sun_of_strength}
+use Rattle.cpl_state.specs.CouplingStep.{state_after, step_after, step_entered, step_left}
 use Rattle.cpl_laws.proofs.FastRun.{times_more, times_next}
 use Rattle.cpl_course.specs.Course.{CanRun, IsGround, IsOnCourse, KeepsCoupling, over_steps}
 use Rattle.cpl_course.proofs.Budgets.{most_sun_least, step_sun_most}
 use Rattle.cpl_course.proofs.Course.{coupling_of, on_course}
 use Rattle.cpl_plan.specs.Faults.{last_second}
 use Rattle.cpl_plan.specs.Plans.{PlanParts, IsPlan}
-use Rattle.cpl_couple.specs.Rooms.{CanCoupleOn}
-use Rattle.cpl_couple.proofs.Dates.{abs_more, fits_before}
-use Rattle.cpl_couple.proofs.Ranges.{heat_natural}
+use Rattle.cpl_whole.specs.Rooms.{CanCoupleOn}
+use Rattle.cpl_whole.proofs.Dates.{abs_more, fits_before}
+use Rattle.cpl_whole.proofs.Ranges.{heat_natural}
 use Rattle.cpl_whole.specs.Journeys.{CanTravel}
 
 -- a plan can be run

@@ -10,10 +10,10 @@ use Rattle.cpl_fixed.specs.declared.words.Quantity.{Quantity}
 use Rattle.cpl_fixed.specs.declared.words.Quantity.TheVariants.{Heat, Water, Salt}
 use Rattle.cpl_namelist.specs.declared.names.Names.{Names}
 use Rattle.cpl_xgrid.specs.declared.grid.Grid.{Grid}
-use Rattle.cpl_restart.specs.declared.whole.Whole.{Whole}
-use Rattle.cpl_restart.specs.States.{land_cells, ocean_cells}
-use Rattle.cpl_restart.specs.Stocks.{Stocks as StocksOf, flying_to_ice, flying_to_ocean, held, stocks_of, sum_of_stocks}
-use Rattle.cpl_restart.specs.CouplingStep.{step_after, step_arrived, step_entered, step_gave, step_left, step_runoff, step_took}
+use Rattle.cpl_state.specs.declared.whole.Whole.{Whole}
+use Rattle.cpl_state.specs.States.{land_cells, ocean_cells}
+use Rattle.cpl_state.specs.Stocks.{Stocks as StocksOf, flying_to_ice, flying_to_ocean, held, stocks_of, sum_of_stocks}
+use Rattle.cpl_state.specs.CouplingStep.{step_after, step_arrived, step_entered, step_gave, step_left, step_runoff, step_took}
 use Rattle.cpl_laws.proofs.Groups.{total_zeros}
 use Rattle.cpl_fast.specs.declared.fast.FastTally.{FastTally}
 use Rattle.cpl_slow.specs.Sums.{gain_sums}
@@ -21,7 +21,7 @@ use Rattle.cpl_course.specs.Course.{KeepsCoupling, in_flight}
 use Rattle.cpl_plan.specs.declared.stocks.Holdings.{Holdings}
 use Rattle.cpl_plan.specs.declared.stocks.Stocks.{Stocks}
 use Rattle.cpl_plan.specs.Sums.{AreHoldings, AreStocks, held_of}
-use Rattle.cpl_couple.specs.Tallies.{all_fast_sums}
+use Rattle.cpl_whole.specs.Tallies.{all_fast_sums}
 use Rattle.cpl_whole.specs.Holdings.{FitRow, FitRows, Hold, IsWide, holding_of}
 use Rattle.cpl_whole.specs.Exchanges.{crossed, flying_in}
 use Rattle.cpl_whole.proofs.Words.{amount_wide, sum_is}
@@ -68,13 +68,19 @@ module _ (grid : Grid) (whole : Whole) (holdings : Holdings) (are : Hold grid wh
       ∷ to_ice_is Heat i ∷ to_ice_is Water i ∷ to_ice_is Salt i ∷ to_ocean_is Heat i ∷ to_ocean_is Water i ∷ to_ocean_is Salt i ∷ []
 
   -- what was taken, from what the state before a step holds
-  pub took_is : (names : Names) (fast slow : List ℤ) → fast ≡ (all_fast_sums grid names whole).took → slow ≡ gain_sums (ocean_cells grid) (step_arrived grid names whole)
+  pub took_is : (names : Names) → KeepsCoupling grid names whole → (fast slow : List ℤ) → fast ≡ (all_fast_sums grid names whole).took → slow ≡ gain_sums (ocean_cells grid) (step_arrived grid names whole)
       → crossed fast slow holdings ≡ step_took grid names whole
   unfolding step_took
-  took_is names fast slow e f =
+  took_is names keeps fast slow e f =
       let none = sym (total_zeros (range_with_len 0 (ocean_cells grid))) in
+      let a = to_ice_is Heat ∙ sym (keeps.landed 9 (omega arith)) in
+      let b = to_ice_is Water ∙ sym (keeps.landed 10 (omega arith)) in
+      let c = to_ice_is Salt ∙ sym (keeps.landed 11 (omega arith)) in
+      let d = to_ocean_is Heat ∙ sym (keeps.landed 12 (omega arith)) in
+      let g = to_ocean_is Water ∙ sym (keeps.landed 13 (omega arith)) in
+      let h = to_ocean_is Salt ∙ sym (keeps.landed 14 (omega arith)) in
       λ i. at (e i) 0 ∷ at (e i) 1 ∷ pos 0 ∷ at (e i) 2 ∷ at (e i) 3 ∷ pos 0 ∷ at (f i) 0 ∷ at (f i) 1 ∷ none i
-      ∷ to_ice_is Heat i ∷ to_ice_is Water i ∷ to_ice_is Salt i ∷ to_ocean_is Heat i ∷ to_ocean_is Water i ∷ to_ocean_is Salt i ∷ []
+      ∷ a i ∷ b i ∷ c i ∷ d i ∷ g i ∷ h i ∷ []
 
 module _ (grid : Grid) (names : Names) (whole : Whole) (keeps : KeepsCoupling grid names whole) where
   -- what was given flies after the step, where what was taken flew before it
@@ -88,12 +94,12 @@ module _ (grid : Grid) (names : Names) (whole : Whole) (keeps : KeepsCoupling gr
   gave_is after holdings are same fast slow e f =
       let flying = flying_is grid after holdings are ∙ ap (in_flight grid) same in
       let none = sym (total_zeros (range_with_len 0 (land_cells grid))) in
-      let a = ap (λ (xs : List ℤ). at xs 9) flying ∙ gave_flies 9 refl in
-      let b = ap (λ (xs : List ℤ). at xs 10) flying ∙ gave_flies 10 refl in
-      let c = ap (λ (xs : List ℤ). at xs 11) flying ∙ gave_flies 11 refl in
-      let d = ap (λ (xs : List ℤ). at xs 12) flying ∙ gave_flies 12 refl in
-      let g = ap (λ (xs : List ℤ). at xs 13) flying ∙ gave_flies 13 refl in
-      let h = ap (λ (xs : List ℤ). at xs 14) flying ∙ gave_flies 14 refl in
+      let a = ap (λ (xs : List ℤ). at xs 9) flying ∙ gave_flies 9 (sym (keeps.landed 9 (omega arith))) in
+      let b = ap (λ (xs : List ℤ). at xs 10) flying ∙ gave_flies 10 (sym (keeps.landed 10 (omega arith))) in
+      let c = ap (λ (xs : List ℤ). at xs 11) flying ∙ gave_flies 11 (sym (keeps.landed 11 (omega arith))) in
+      let d = ap (λ (xs : List ℤ). at xs 12) flying ∙ gave_flies 12 (sym (keeps.landed 12 (omega arith))) in
+      let g = ap (λ (xs : List ℤ). at xs 13) flying ∙ gave_flies 13 (sym (keeps.landed 13 (omega arith))) in
+      let h = ap (λ (xs : List ℤ). at xs 14) flying ∙ gave_flies 14 (sym (keeps.landed 14 (omega arith))) in
       λ i. at (e i) 0 ∷ at (e i) 1 ∷ pos 0 ∷ at (e i) 2 ∷ at (e i) 3 ∷ pos 0 ∷ at (f i) 0 ∷ at (f i) 1 ∷ none i
       ∷ a i ∷ b i ∷ c i ∷ d i ∷ g i ∷ h i ∷ []
 

@@ -1,6 +1,14 @@
+pub mod Small
+pub mod Ranges
+pub mod Dates
+pub mod Flights
+pub mod FastSums
+pub mod Steps
 pub mod Course
 pub mod Holds
 pub mod Tables
 pub mod Words
 pub mod Going
 pub mod Rest
+pub mod Grounds
+pub mod Kept

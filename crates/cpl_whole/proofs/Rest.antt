@@ -10,12 +10,12 @@ use Rattle.cpl_fixed.specs.declared.words.Quantity.TheVariants.{Heat, Water, Sal
 use Rattle.cpl_namelist.specs.declared.names.Names.{Names}
 use Rattle.cpl_namelist.specs.Civil.{Fits}
 use Rattle.cpl_xgrid.specs.declared.grid.Grid.{Grid}
-use Rattle.cpl_restart.specs.declared.whole.Whole.{Whole}
-use Rattle.cpl_restart.specs.declared.whole.Mid.{Mid}
-use Rattle.cpl_restart.specs.Budget.{budget_of, if_above}
-use Rattle.cpl_restart.specs.FastStep.{fast_after}
-use Rattle.cpl_restart.specs.Slow.{slow_after}
-use Rattle.cpl_restart.specs.CouplingStep.{after_fast, before, fast_by, month_of, sea_after, state_after, step_after, taken, with_sea}
+use Rattle.cpl_state.specs.declared.whole.Whole.{Whole}
+use Rattle.cpl_state.specs.declared.whole.Mid.{Mid}
+use Rattle.cpl_state.specs.Budget.{budget_of, if_above}
+use Rattle.cpl_state.specs.FastStep.{fast_after}
+use Rattle.cpl_state.specs.Slow.{slow_after}
+use Rattle.cpl_state.specs.CouplingStep.{after_fast, before, fast_by, month_of, sea_after, state_after, step_after, taken, with_sea}
 use Rattle.cpl_laws.proofs.FastRun.{times_next}
 use Rattle.cpl_course.specs.Course.{IsGround}
 use Rattle.cpl_course.proofs.Course.{goes_on, on_course}
@@ -111,6 +111,7 @@ module _ (plan : PlanParts) (is : IsPlan plan) (ground : IsGround plan.grid) (ca
         land = is.land;
         ice = is.ice;
         ocean = is.ocean;
+        layouts = is.layouts;
         time = course.can.time;
         date = subst (λ (x : ℤ). Fits plan.names.start (unsigned_abs x)) (sym same_end) is.date;
         budget = record { heat = course.can.budget.heat; water = course.can.budget.water; salt = course.can.budget.salt };

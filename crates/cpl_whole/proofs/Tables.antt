@@ -14,9 +14,9 @@ use Rattle.cpl_fixed.specs.declared.words.Quantity.{Quantity}
 use Rattle.cpl_fixed.specs.declared.words.Quantity.TheVariants.{Heat, Water, Salt}
 use Rattle.cpl_namelist.specs.declared.names.Names.{Names}
 use Rattle.cpl_xgrid.specs.declared.grid.Grid.{Grid}
-use Rattle.cpl_restart.specs.declared.whole.Whole.{Whole}
-use Rattle.cpl_restart.specs.Stocks.{stocks_of}
-use Rattle.cpl_restart.specs.CouplingStep.{state_after, step_after, step_entered, step_left, step_took}
+use Rattle.cpl_state.specs.declared.whole.Whole.{Whole}
+use Rattle.cpl_state.specs.Stocks.{stocks_of}
+use Rattle.cpl_state.specs.CouplingStep.{state_after, step_after, step_entered, step_left, step_took}
 use Rattle.cpl_laws.proofs.Groups.{all_range}
 use Rattle.cpl_course.specs.Course.{IsOnCourse, KeepsCoupling, in_flight, over_steps}
 use Rattle.cpl_plan.specs.declared.stocks.Holdings.{Holdings}

@@ -6,7 +6,7 @@ use Rattle.std.proofs.lemmas.Int.{ints}
 use Rattle.cpl_fixed.specs.Amounts.{IsAmount}
 use Rattle.cpl_fixed.specs.declared.words.Quantity.{Quantity}
 use Rattle.cpl_fixed.specs.declared.words.Quantity.TheVariants.{Heat, Water, Salt}
-use Rattle.cpl_restart.specs.Numbers.{IsStored}
+use Rattle.cpl_state.specs.Stored.{IsStored}
 use Rattle.cpl_whole.specs.Holdings.{IsWide}
 use Rattle.cpl_whole.specs.Rows.{of_heat}
 

@@ -4,8 +4,8 @@ use Rattle.cpl_fixed.specs.Amounts.{at}
 use Rattle.cpl_fixed.specs.declared.words.Quantity.{Quantity}
 use Rattle.cpl_namelist.specs.declared.names.Names.{Names}
 use Rattle.cpl_xgrid.specs.declared.grid.Grid.{Grid}
-use Rattle.cpl_restart.specs.declared.whole.Whole.{Whole}
-use Rattle.cpl_restart.specs.CouplingStep.{step_after, step_gave, step_took}
+use Rattle.cpl_state.specs.declared.whole.Whole.{Whole}
+use Rattle.cpl_state.specs.CouplingStep.{step_after, step_gave, step_took}
 use Rattle.cpl_course.specs.Course.{in_flight}
 use Rattle.cpl_stocks.specs.declared.rows.Exchange.{Exchange}
 use Rattle.cpl_stocks.specs.declared.rows.ExchangeRow.{ExchangeRow}

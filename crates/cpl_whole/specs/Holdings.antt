@@ -1,13 +1,13 @@
 -- What a state holds of heat, of water and of salt.
 use Rattle.std.specs.Prelude.{◌≡◌, ℤ, pos, ◌≤ℤ◌, ◌<ℤ◌, ◌^◌}
 use Rattle.cpl_fixed.specs.Amounts.{IsAmount}
-use Rattle.cpl_restart.specs.Numbers.{IsStored}
+use Rattle.cpl_state.specs.Stored.{IsStored}
 use Rattle.cpl_fixed.specs.declared.limits.TheConstants.{MOST_TOTAL}
 use Rattle.cpl_fixed.specs.declared.words.Quantity.{Quantity}
 use Rattle.cpl_fixed.specs.declared.words.Quantity.TheVariants.{Heat, Water, Salt}
 use Rattle.cpl_xgrid.specs.declared.grid.Grid.{Grid}
-use Rattle.cpl_restart.specs.declared.whole.Whole.{Whole}
-use Rattle.cpl_restart.specs.Stocks.{Stocks as StocksOf, stocks_of, sum_of_stocks}
+use Rattle.cpl_state.specs.declared.whole.Whole.{Whole}
+use Rattle.cpl_state.specs.Stocks.{Stocks as StocksOf, stocks_of, sum_of_stocks}
 use Rattle.cpl_plan.specs.declared.stocks.Holdings.{Holdings}
 use Rattle.cpl_plan.specs.declared.stocks.Stocks.{Stocks}
 use Rattle.cpl_plan.specs.Sums.{AreSmall, held_of}

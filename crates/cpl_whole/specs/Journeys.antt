@@ -6,12 +6,12 @@ use Rattle.cpl_fixed.specs.declared.words.Quantity.{Quantity}
 use Rattle.cpl_namelist.specs.declared.names.Names.{Names}
 use Rattle.cpl_namelist.specs.Civil.{Fits, IsStart}
 use Rattle.cpl_xgrid.specs.declared.grid.Grid.{Grid}
-use Rattle.cpl_restart.specs.declared.whole.Whole.{Whole}
-use Rattle.cpl_restart.specs.Numbers.{IsStored}
-use Rattle.cpl_restart.specs.Stocks.{held}
-use Rattle.cpl_restart.specs.CouplingStep.{state_after, step_after, step_entered, step_left}
+use Rattle.cpl_state.specs.declared.whole.Whole.{Whole}
+use Rattle.cpl_state.specs.Stored.{IsStored}
+use Rattle.cpl_state.specs.Stocks.{held}
+use Rattle.cpl_state.specs.CouplingStep.{state_after, step_after, step_entered, step_left}
 use Rattle.cpl_course.specs.Course.{CanRun, IsGround, over_steps}
-use Rattle.cpl_couple.specs.Rooms.{CanCoupleOn}
+use Rattle.cpl_whole.specs.Rooms.{CanCoupleOn}
 use Rattle.cpl_plan.specs.Faults.{last_second}
 use Rattle.cpl_stocks.specs.declared.rows.ExchangeRow.{ExchangeRow}
 use Rattle.cpl_stocks.specs.declared.rows.StockRow.{StockRow}

@@ -8,9 +8,9 @@ use Rattle.cpl_namelist.specs.declared.civil.Civil.{Civil}
 use Rattle.cpl_namelist.specs.declared.names.Names.{Names}
 use Rattle.cpl_namelist.specs.Civil.{civil_after, civil_of}
 use Rattle.cpl_xgrid.specs.declared.grid.Grid.{Grid}
-use Rattle.cpl_restart.specs.declared.whole.Whole.{Whole}
-use Rattle.cpl_restart.specs.Stocks.{Stocks, held, stocks_of, sum_of_stocks}
-use Rattle.cpl_restart.specs.CouplingStep.{state_after, step_entered, step_left, step_gave, step_took}
+use Rattle.cpl_state.specs.declared.whole.Whole.{Whole}
+use Rattle.cpl_state.specs.Stocks.{Stocks, held, stocks_of, sum_of_stocks}
+use Rattle.cpl_state.specs.CouplingStep.{state_after, step_entered, step_left, step_gave, step_took}
 use Rattle.cpl_course.specs.Course.{in_flight, over_steps}
 use Rattle.cpl_stocks.specs.declared.rows.Exchange.{Exchange}
 use Rattle.cpl_stocks.specs.declared.rows.Exchange.TheVariants.{AirLand, AirIce, LandIce, OceanIce, IceOcean}

@@ -2,7 +2,7 @@
 ghost use Rattle.std.specs.Prelude.{◌≡◌, IfOk};
 
 use cpl_fixed::List;
-use cpl_restart::Whole;
+use cpl_state::Whole;
 use std::alloc::{AllocError, Global};
 
 fn copy_of(alloc: Global, list: &List<i64>) -> Result<List<i64>, AllocError>

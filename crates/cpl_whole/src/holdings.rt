@@ -1,7 +1,7 @@
 // The rows of the stocks table.
 ghost use Rattle.std.specs.Prelude.{◌≡◌, ◌++◌, ◌+ℤ◌, map, OnOk};
 ghost use Rattle.cpl_fixed.specs.Amounts.{IsAmount};
-ghost use Rattle.cpl_restart.specs.Stocks.{sum_of_stocks};
+ghost use Rattle.cpl_state.specs.Stocks.{sum_of_stocks};
 ghost use Rattle.cpl_plan.specs.Sums.{held_of};
 ghost use Rattle.cpl_whole.specs.Holdings.{FitRow, FitRows, IsStage, IsWide, holding_of};
 ghost use Rattle.cpl_whole.specs.Rows.{of_heat, quantities, stock_row_of};

@@ -1,23 +1,24 @@
 // A run on its way.
 ghost use Rattle.std.specs.Prelude.{◌≡◌, [], ◌++◌, map, IfOk, OnOk};
 ghost use Rattle.cpl_course.specs.Course.{IsGround};
-ghost use Rattle.cpl_couple.specs.Rooms.{IsStepRoom};
-ghost use Rattle.cpl_restart.specs.States.{IsWhole};
+ghost use Rattle.cpl_whole.specs.Rooms.{IsStepRoom};
+ghost use Rattle.cpl_state.specs.States.{IsWhole};
 ghost use Rattle.cpl_whole.specs.Exchanges.{Crossed};
 ghost use Rattle.cpl_whole.specs.Holdings.{holding_of};
 ghost use Rattle.cpl_whole.specs.Journeys.{CanGo, CanTell, CanTravel, HasGone, HasSetOut, IsJourney};
 ghost use Rattle.cpl_whole.specs.Rows.{date_of, quantities, stock_row_of};
 
 use crate::copy::copy_whole;
+use crate::coupling::couple;
 use crate::exchanges::Crossing;
 use crate::holdings::{Stage, push_stocks};
+use crate::room::StepRoom;
 use crate::run::Outcome;
 use crate::tally::step_tally;
-use cpl_couple::{StepRoom, couple};
 use cpl_fixed::List;
 use cpl_namelist::Names;
 use cpl_plan::{Holdings, holdings_of};
-use cpl_restart::Whole;
+use cpl_state::Whole;
 use cpl_stocks::{ExchangeRow, StockRow};
 use cpl_xgrid::Grid;
 use std::alloc::{AllocError, Global};

@@ -1,12 +1,12 @@
 // Runs that go on.
 ghost use Rattle.std.specs.Prelude.{◌≡◌, ◌-◌, ◌≤◌, None};
-ghost use Rattle.cpl_restart.specs.States.{IsWhole};
-ghost use Rattle.cpl_restart.specs.CouplingStep.{state_after};
+ghost use Rattle.cpl_state.specs.States.{IsWhole};
+ghost use Rattle.cpl_state.specs.CouplingStep.{state_after};
 ghost use Rattle.cpl_plan.specs.Faults.{plan_fault};
 ghost use Rattle.cpl_plan.specs.Plans.{IsPlan};
 ghost use Rattle.cpl_whole.specs.Journeys.{rest_of};
 
-use cpl_couple::ground_of;
+use crate::ground::ground_of;
 use cpl_plan::Plan;
 
 /// A run may stop after any of its coupling steps and go on from the state there: that is a lawful state of the grid; the rest of the

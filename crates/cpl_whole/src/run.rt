@@ -1,16 +1,16 @@
 // The undivided run.
 ghost use Rattle.std.specs.Prelude.{◌≡◌, [], IfOk, All};
-ghost use Rattle.cpl_restart.specs.States.{IsWhole};
-ghost use Rattle.cpl_restart.specs.CouplingStep.{state_after};
+ghost use Rattle.cpl_state.specs.States.{IsWhole};
+ghost use Rattle.cpl_state.specs.CouplingStep.{state_after};
 ghost use Rattle.cpl_whole.specs.Journeys.{CanTravel, HasSetOut, IsJourney};
 ghost use Rattle.cpl_whole.specs.Rows.{Balances, Keeps, exchange_rows, stock_rows};
 
+use crate::ground::ground_of;
 use crate::journey::Journey;
-use cpl_couple::ground_of;
 use cpl_fixed::List;
 use cpl_namelist::Names;
 use cpl_plan::Plan;
-use cpl_restart::Whole;
+use cpl_state::Whole;
 use cpl_stocks::{ExchangeRow, StockRow};
 use cpl_xgrid::Grid;
 use std::alloc::{AllocError, Global};

@@ -1,11 +1,11 @@
 // The air alone.
 ghost use Rattle.std.specs.Prelude.{◌≡◌, IfOk};
-ghost use Rattle.cpl_restart.specs.Diffusion.{IsAirMesh, AreAmounts, cell_count, air_after, total_of};
+ghost use Rattle.cpl_state.specs.Diffusion.{IsAirMesh, AreAmounts, cell_count, air_after, total_of};
 
 use cpl_diffusion::{diffuse, make_room, make_ways};
 use cpl_fixed::List;
 use cpl_mosaic::Mesh;
-use cpl_restart::Air;
+use cpl_state::Air;
 use std::alloc::{AllocError, Global};
 
 /// Runs the air alone for `n` steps: heat and vapour flow between all cells whose sides meet, all sides at once, toward equal

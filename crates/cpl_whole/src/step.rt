@@ -1,14 +1,16 @@
 // A coupling step of a plan.
 ghost use Rattle.std.specs.Prelude.{◌≡◌, ℕ, ◌+◌, ◌<◌, OnOk, OnErr, IfOk};
 ghost use Rattle.cpl_course.specs.Course.{KeepsCoupling};
-ghost use Rattle.cpl_restart.specs.CouplingStep.{state_after, step_after, step_entered, step_gave, step_left, step_took};
-ghost use Rattle.cpl_couple.specs.Rooms.{CanCoupleOn};
+ghost use Rattle.cpl_state.specs.CouplingStep.{state_after, step_after, step_entered, step_gave, step_left, step_took};
+ghost use Rattle.cpl_whole.specs.Rooms.{CanCoupleOn};
 
+use crate::coupling::couple;
+use crate::ground::ground_of;
+use crate::room::StepRoom;
 use crate::tally::{StepTally, step_tally};
-use cpl_couple::{StepRoom, couple, ground_of};
 use cpl_namelist::Names;
 use cpl_plan::{Plan, holdings_of};
-use cpl_restart::Whole;
+use cpl_state::Whole;
 use cpl_xgrid::Grid;
 use std::alloc::{AllocError, Global};
 

@@ -2,7 +2,7 @@
 ghost use Rattle.std.specs.Prelude.{◌≡◌};
 ghost use Rattle.cpl_whole.specs.Exchanges.{crossed};
 
-use cpl_couple::SurfaceTally;
+use crate::tallies::SurfaceTally;
 use cpl_plan::Holdings;
 
 /// What a coupling step moved. `entered` is the sun that was absorbed and `left` the heat to space. `gave` is what the givers' cells

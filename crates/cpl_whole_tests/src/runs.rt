@@ -2,14 +2,14 @@
 ghost use Rattle.std.specs.Prelude.{[], ◌∷◌, All, length, IfOk};
 ghost use Rattle.std.specs.Bool.{OnTrue};
 ghost use Rattle.cpl_mosaic.specs.Contacts.{AreTiles};
-ghost use Rattle.cpl_restart.specs.Diffusion.{AreAmounts, IsAirArea, IsAirMesh, cell_count};
+ghost use Rattle.cpl_state.specs.Diffusion.{AreAmounts, IsAirArea, IsAirMesh, cell_count};
 
 use cpl_divided::run_divided;
 use cpl_fixed::List;
 use cpl_layout::Layout;
 use cpl_mosaic::{Contact, Mesh, Mosaic, Tile};
-use cpl_restart::Air;
 use cpl_samples::are_amounts;
+use cpl_state::Air;
 use cpl_whole::run_solo;
 use std::alloc::{AllocError, Global};
 

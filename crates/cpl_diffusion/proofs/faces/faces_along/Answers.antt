@@ -5,7 +5,7 @@ use Rattle.cpl_mosaic.specs.declared.mosaic.Mesh.{Mesh}
 use Rattle.cpl_mosaic.specs.declared.parts.Side.{Side}
 use Rattle.cpl_mosaic.specs.Mates.{MatesAgree}
 use Rattle.cpl_mosaic.specs.Cells.{NumbersAgree}
-use Rattle.cpl_restart.specs.Diffusion.{at, cell_count}
+use Rattle.cpl_state.specs.Diffusion.{at, cell_count}
 use Rattle.cpl_diffusion.specs.Across.{across_of, faces_to, next_at}
 use Rattle.cpl_diffusion.specs.declared.faces.Faces.{Faces}
 use Rattle.cpl_diffusion.proofs.Across.{across_below, faces_to_at, length_to, same_previous}

@@ -1,7 +1,7 @@
 use Rattle.std.proofs.Common.{◌≡◌, ◌∙◌, sym, subst, ap, ℕ, ◌<◌, ℤ, List, length, arith, Vec, Global}
 use Rattle.std.proofs.lemmas.List.{with_items_is}
 use Rattle.cpl_mosaic.specs.declared.parts.Side.TheVariants.{W, E, S, N}
-use Rattle.cpl_restart.specs.Diffusion.{AreAmounts, at, cell_count, total_of}
+use Rattle.cpl_state.specs.Diffusion.{AreAmounts, at, cell_count, total_of}
 use Rattle.cpl_diffusion.specs.Steps.{AreFaces, left_in}
 use Rattle.cpl_diffusion.specs.declared.faces.Faces.{Faces}
 use Rattle.cpl_diffusion.proofs.Conserved.{diffused_are, diffused_total}

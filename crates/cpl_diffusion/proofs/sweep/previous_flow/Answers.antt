@@ -1,7 +1,7 @@
 use Rattle.std.proofs.Common.{◌≡◌, ◌∙◌, ap, ℕ, ◌<◌, List, length, arith}
 use Rattle.std.specs.Prelude.{ℤ}
 use Rattle.std.proofs.lemmas.Int.{ints}
-use Rattle.cpl_restart.specs.Diffusion.{at}
+use Rattle.cpl_state.specs.Diffusion.{at}
 use Rattle.cpl_diffusion.specs.Across.{faces_at}
 use Rattle.cpl_diffusion.specs.Steps.{AreFaces, between, flow_next, flow_previous}
 use Rattle.cpl_diffusion.specs.declared.faces.Faces.{Faces}

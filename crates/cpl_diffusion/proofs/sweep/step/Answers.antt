@@ -1,7 +1,7 @@
 use Rattle.std.proofs.Common.{◌≡◌, ◌∙◌, ap, ℕ, ◌<◌, ◌+◌, ℤ, List, length, pos, arith, slice_set}
 use Rattle.std.proofs.lemmas.Int.{ints}
 use Rattle.std.proofs.lemmas.List.Edits.{fill_by_more}
-use Rattle.cpl_restart.specs.Diffusion.{at}
+use Rattle.cpl_state.specs.Diffusion.{at}
 use Rattle.cpl_diffusion.specs.Steps.{flow_next, left_in}
 use Rattle.cpl_diffusion.proofs.Conserved.{amount_at}
 use Rattle.cpl_diffusion.proofs.sweep.step.Goals as goal

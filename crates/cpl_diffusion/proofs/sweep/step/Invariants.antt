@@ -1,5 +1,5 @@
 use Rattle.std.proofs.Common.{◌≡◌, ℕ, ◌<◌}
-use Rattle.cpl_restart.specs.Diffusion.{at}
+use Rattle.cpl_state.specs.Diffusion.{at}
 use Rattle.cpl_diffusion.specs.Steps.{flow_next, left_in}
 use Rattle.cpl_diffusion.proofs.sweep.step.Given as goal
 

@@ -5,7 +5,7 @@ use Rattle.cpl_strip.specs.declared.parts.Strip.{Strip}
 use Rattle.cpl_strip.specs.Strips.{AreStrips}
 use Rattle.cpl_field.specs.Spots.{FieldNumbers}
 use Rattle.cpl_atmos.specs.Sweeps.{AirNumbers}
-use Rattle.cpl_restart.specs.Diffusion.{AreAmounts, cell_count, diffused_by, total_of}
+use Rattle.cpl_state.specs.Diffusion.{AreAmounts, cell_count, diffused_by, total_of}
 use Rattle.cpl_divided.specs.Fields.{AreJoined, Carries}
 use Rattle.cpl_divided.specs.Whole.{HoldWhole, HaveAreas}
 use Rattle.cpl_divided.proofs.Filled.{joined}

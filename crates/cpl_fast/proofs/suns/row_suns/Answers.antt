@@ -2,7 +2,7 @@ use Rattle.std.proofs.Common.{◌≡◌, ◌∙◌, sym, ap, subst, ℕ, ◌+◌
 use Rattle.std.specs.Prelude.{pos, ◌+ℤ◌, ◌-ℤ◌}
 use Rattle.std.proofs.lemmas.Int.{ints}
 use Rattle.cpl_fixed.specs.Shares.{part_of, share}
-use Rattle.cpl_restart.specs.FastStep.{albedo}
+use Rattle.cpl_state.specs.FastStep.{albedo}
 use Rattle.cpl_fast.specs.declared.flows.Flow.{Flow}
 use Rattle.cpl_fast.specs.declared.portions.Portions.{Portions}
 use Rattle.cpl_fast.specs.Flows.{ArePortions, area_in, before_in, flow_at}

@@ -4,7 +4,7 @@ use Rattle.std.proofs.lemmas.List.{length-replicate}
 use Rattle.cpl_fixed.specs.Amounts.{at}
 use Rattle.cpl_mosaic.specs.declared.parts.Tile.{Tile}
 use Rattle.cpl_xgrid.specs.declared.parts.XRow.{XRow}
-use Rattle.cpl_restart.specs.States.{air_cells}
+use Rattle.cpl_state.specs.States.{air_cells}
 use Rattle.cpl_laws.specs.Once.{IsNumbered}
 use Rattle.cpl_fast.specs.declared.flows.Link.{Link}
 use Rattle.cpl_fast.specs.Tables.{AreLinked, CanLink}

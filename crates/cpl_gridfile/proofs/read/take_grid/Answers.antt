@@ -8,6 +8,7 @@ use Rattle.cpl_gridfile.specs.Readers.{parts_of}
 use Rattle.cpl_gridfile.proofs.Judging.{lines_fail, parts_judged}
 use Rattle.cpl_gridfile.proofs.CoupledLaws.{coupled_agrees}
 use Rattle.cpl_gridfile.proofs.Laws.{returned_is_grid}
+use Rattle.cpl_gridfile.proofs.WholeGrids.{whole_areas, whole_grid}
 use Rattle.cpl_gridfile.proofs.read.take_grid.Goals as goal
 
 pub returns-in_err-reader-clause-exact : goal.returns-in_err-reader-clause-exact
@@ -32,3 +33,17 @@ unfolding coupled_grid_of
 returns-clause-found c =
     returned_is_grid coupled_grids coupled_agrees c.deref.result.now c.coupled.result
     (subst (Returns is_memory c.coupled.result) (sym (parts_judged coupled_grids c.deref.result.now (parts_of c.in_ok-reader.reader) c.in_ok-reader.ensures)) c.coupled.ensures)
+
+pub returns-clause-grid : goal.returns-clause-grid
+unfolding coupled_grid_of
+returns-clause-grid c =
+    whole_grid c.coupled.result
+    (returned_is_grid coupled_grids coupled_agrees c.deref.result.now c.coupled.result
+    (subst (Returns is_memory c.coupled.result) (sym (parts_judged coupled_grids c.deref.result.now (parts_of c.in_ok-reader.reader) c.in_ok-reader.ensures)) c.coupled.ensures))
+
+pub returns-clause-areas : goal.returns-clause-areas
+unfolding coupled_grid_of
+returns-clause-areas c =
+    whole_areas c.coupled.result
+    (returned_is_grid coupled_grids coupled_agrees c.deref.result.now c.coupled.result
+    (subst (Returns is_memory c.coupled.result) (sym (parts_judged coupled_grids c.deref.result.now (parts_of c.in_ok-reader.reader) c.in_ok-reader.ensures)) c.coupled.ensures))

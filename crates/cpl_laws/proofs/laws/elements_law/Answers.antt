@@ -1,5 +1,5 @@
 use Rattle.std.proofs.Common.{◌∙◌}
-use Rattle.cpl_restart.specs.Elements.{element_count, part_area}
+use Rattle.cpl_state.specs.Elements.{element_count, part_area}
 use Rattle.cpl_laws.proofs.Sums.{total_range}
 use Rattle.cpl_laws.proofs.Areas.{air_elements, part_areas}
 use Rattle.cpl_laws.proofs.Shares.{share_total}

@@ -1,6 +1,6 @@
 use Rattle.std.proofs.Common.{◌≡◌, ◌∙◌, sym, ap, arith, ℕ, List, length, Ok}
 use Rattle.cpl_xgrid.specs.declared.grid.Grid.{Grid}
-use Rattle.cpl_restart.specs.declared.whole.Whole.{Whole}
+use Rattle.cpl_state.specs.declared.whole.Whole.{Whole}
 use Rattle.cpl_restart.specs.RestartBytes.{whole_bytes, whole_of}
 use Rattle.cpl_restart.specs.SecondBytes.{second_bytes}
 use Rattle.cpl_make.specs.Starts.{made_start}

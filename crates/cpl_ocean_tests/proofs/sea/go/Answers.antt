@@ -1,7 +1,7 @@
 use Rattle.std.proofs.Common.{◌≡◌, ◌*◌, sym, subst, length}
-use Rattle.cpl_restart.specs.CouplingStep.{sea_of}
-use Rattle.cpl_restart.specs.States.{layers, ocean_cells}
-use Rattle.cpl_restart.specs.declared.whole.Whole.{Whole}
+use Rattle.cpl_state.specs.CouplingStep.{sea_of}
+use Rattle.cpl_state.specs.States.{layers, ocean_cells}
+use Rattle.cpl_state.specs.declared.whole.Whole.{Whole}
 use Rattle.cpl_sea.specs.Seas.{IsSea}
 use Rattle.cpl_ocean_tests.proofs.sea.go.Goals as goal
 

@@ -1,6 +1,6 @@
 use Rattle.std.specs.Prelude.{◌≡◌, ◌*◌, length}
-use Rattle.cpl_restart.specs.CouplingStep.{sea_of}
-use Rattle.cpl_restart.specs.States.{layers, ocean_cells}
+use Rattle.cpl_state.specs.CouplingStep.{sea_of}
+use Rattle.cpl_state.specs.States.{layers, ocean_cells}
 use Rattle.cpl_sea.specs.Rooms.{IsSeaRoom}
 use Rattle.cpl_sea.specs.Seas.{IsSea}
 use Rattle.cpl_ocean_tests.proofs.sea.go.Given as goal

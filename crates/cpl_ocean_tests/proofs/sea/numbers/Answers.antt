@@ -3,7 +3,7 @@ use Rattle.std.proofs.lemmas.Int.{ints}
 use Rattle.std.specs.Prelude.{ℤ, All}
 use Rattle.cpl_faces.specs.declared.face.Face.{Face}
 use Rattle.cpl_faces.specs.Faces.{AreFaces}
-use Rattle.cpl_restart.specs.States.{layers}
+use Rattle.cpl_state.specs.States.{layers}
 use Rattle.cpl_sea.specs.Seas.{AreNumbers, IsOcean}
 use Rattle.cpl_ocean_tests.specs.Small.{IsWet}
 use Rattle.cpl_ocean_tests.proofs.Walls.{all_same}

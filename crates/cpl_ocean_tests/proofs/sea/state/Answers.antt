@@ -1,5 +1,5 @@
 use Rattle.std.proofs.Common.{sym, subst}
-use Rattle.cpl_restart.specs.States.{layers}
+use Rattle.cpl_state.specs.States.{layers}
 use Rattle.cpl_sea.specs.Seas.{IsSea}
 use Rattle.cpl_ocean_tests.proofs.sea.state.Goals as goal
 

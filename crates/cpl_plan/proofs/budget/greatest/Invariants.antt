@@ -1,6 +1,6 @@
 use Rattle.std.proofs.Common.{◌≡◌, take}
 use Rattle.cpl_fixed.specs.Ranges.{IsFromℤ}
-use Rattle.cpl_restart.specs.Budget.{greatest}
+use Rattle.cpl_state.specs.Budget.{greatest}
 use Rattle.cpl_plan.proofs.budget.greatest.Given as goal
 
 abbrev pub invariant-loop-number : goal.invariant-loop-number

@@ -2,8 +2,8 @@ use Rattle.std.proofs.Common.{◌≡◌, ◌∙◌, arith}
 use Rattle.std.specs.Prelude.{◌+ℤ◌}
 use Rattle.std.proofs.lemmas.Int.{ints}
 use Rattle.cpl_fixed.specs.declared.words.Quantity.TheVariants.{Heat, Water, Salt}
-use Rattle.cpl_restart.specs.Budget.{budget_of, sun_to_come}
-use Rattle.cpl_restart.specs.Stocks.{held, stocks_of}
+use Rattle.cpl_state.specs.Budget.{budget_of, sun_to_come}
+use Rattle.cpl_state.specs.Stocks.{held, stocks_of}
 use Rattle.cpl_plan.proofs.Few.{added, as_word, word}
 use Rattle.cpl_plan.proofs.Held.{all_held}
 use Rattle.cpl_plan.proofs.Lawful.{judged_alike}

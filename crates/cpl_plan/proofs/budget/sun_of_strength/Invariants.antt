@@ -1,6 +1,6 @@
 use Rattle.std.proofs.Common.{◌≡◌, ◌≤◌, ◌*◌, ◌^◌, take}
 use Rattle.std.specs.Prelude.{pos}
-use Rattle.cpl_restart.specs.Budget.{sun_of_strength}
+use Rattle.cpl_state.specs.Budget.{sun_of_strength}
 use Rattle.cpl_plan.proofs.budget.sun_of_strength.Given as goal
 
 -- the sun so far; that of a cell is at most 4 times its greatest number

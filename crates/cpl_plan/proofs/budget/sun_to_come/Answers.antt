@@ -3,7 +3,7 @@ use Rattle.std.specs.Prelude.{pos, ◌*ℤ◌}
 use Rattle.std.proofs.lemmas.Int.{ints}
 use Rattle.std.proofs.lemmas.List.Elements.{All-from_recursion}
 use Rattle.cpl_fixed.specs.Ranges.{IsFromℤ}
-use Rattle.cpl_restart.specs.Budget.{greatest, sun_of_strength}
+use Rattle.cpl_state.specs.Budget.{greatest, sun_of_strength}
 use Rattle.cpl_plan.proofs.Held.{sun_is}
 use Rattle.cpl_plan.proofs.budget.sun_to_come.Goals as goal
 

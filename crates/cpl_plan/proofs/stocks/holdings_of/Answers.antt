@@ -1,6 +1,6 @@
 use Rattle.std.proofs.Common.{refl, arith, rules}
-use Rattle.cpl_restart.specs.Stocks.{stocks_of}
-use Rattle.cpl_restart.specs.States.{ocean_cells}
+use Rattle.cpl_state.specs.Stocks.{stocks_of}
+use Rattle.cpl_state.specs.States.{ocean_cells}
 use Rattle.cpl_plan.proofs.Few.{summed, small_word}
 use Rattle.cpl_plan.proofs.Places.{summed_at, summed_both, small_at, small_both}
 use Rattle.cpl_plan.proofs.stocks.holdings_of.Goals as goal

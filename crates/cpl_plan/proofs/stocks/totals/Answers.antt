@@ -2,7 +2,7 @@ use Rattle.std.proofs.Common.{◌+◌, ◌*◌, arith}
 use Rattle.std.specs.Prelude.{pos}
 use Rattle.std.proofs.lemmas.Int.{ints}
 use Rattle.std.proofs.lemmas.Nat.{mul-add-lt}
-use Rattle.cpl_restart.specs.States.{of_cell}
+use Rattle.cpl_state.specs.States.{of_cell}
 use Rattle.cpl_plan.proofs.Totals.{cells_more}
 use Rattle.cpl_plan.proofs.stocks.totals.Goals as goal
 

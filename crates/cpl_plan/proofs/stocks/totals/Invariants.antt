@@ -1,8 +1,8 @@
 use Rattle.std.proofs.Common.{◌≡◌, ℕ, ◌<◌}
 use Rattle.std.specs.Prelude.{pos}
 use Rattle.cpl_fixed.specs.Totals.{total_of}
-use Rattle.cpl_restart.specs.States.{of_cell}
-use Rattle.cpl_restart.specs.FastStep.{for_each}
+use Rattle.cpl_state.specs.States.{of_cell}
+use Rattle.cpl_state.specs.FastStep.{for_each}
 use Rattle.cpl_plan.specs.Sums.{HasRoom, sum_at}
 use Rattle.cpl_plan.proofs.stocks.totals.Given as goal
 

@@ -1,7 +1,7 @@
 use Rattle.std.proofs.Common.{sym, subst}
-use Rattle.cpl_restart.specs.declared.whole.Mid.{Mid}
-use Rattle.cpl_restart.specs.CouplingStep.{before, month_of}
-use Rattle.cpl_restart.specs.FastLaws.{CanStep}
+use Rattle.cpl_state.specs.declared.whole.Mid.{Mid}
+use Rattle.cpl_state.specs.CouplingStep.{before, month_of}
+use Rattle.cpl_state.specs.FastLaws.{CanStep}
 use Rattle.cpl_plan_tests.proofs.fast.fast_stepped.Goals as goal
 
 pub step_fast-requires : goal.step_fast-requires

@@ -1,6 +1,6 @@
 use Rattle.std.proofs.Common.{ap, subst, ◌∙◌, arith, Result}
 use Rattle.cpl_restart.specs.AirBytes.{Reads, air_of}
-use Rattle.cpl_restart.specs.declared.air.Air.{Air}
+use Rattle.cpl_state.specs.declared.air.Air.{Air}
 use Rattle.cpl_restart.specs.declared.start_error.StartError.{StartError}
 use Rattle.cpl_restart.proofs.AirLaws.{air_again, is_air, is_spelled}
 use Rattle.cpl_restart.proofs.air.decode_air.Goals as goal

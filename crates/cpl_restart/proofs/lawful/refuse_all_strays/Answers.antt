@@ -1,6 +1,6 @@
 use Rattle.std.proofs.Common.{◌≡◌, List, ℤ, Ok, rules, ap, sym, ◌∙◌}
 use Rattle.cpl_restart.specs.Lawful.{no_stray, spread}
-use Rattle.cpl_restart.specs.States.{categories, part_count}
+use Rattle.cpl_state.specs.States.{categories, part_count}
 use Rattle.cpl_restart.proofs.Steps.{reads_on}
 use Rattle.cpl_restart.proofs.lawful.refuse_all_strays.Goals as goal
 

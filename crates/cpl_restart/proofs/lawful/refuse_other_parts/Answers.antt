@@ -1,7 +1,7 @@
 use Rattle.std.proofs.Common.{◌≡◌, ◌≤◌, ◌+◌, ◌*◌, ℕ, true, false, length, take, drop, ap, sym, ◌∙◌, arith, below_more}
 use Rattle.std.proofs.lemmas.List.{drop-drop, length-drop}
 use Rattle.cpl_restart.specs.Lawful.{are_other_parts, has_other_parts, if_none}
-use Rattle.cpl_restart.specs.States.{all_of_cell, cells_in}
+use Rattle.cpl_state.specs.States.{all_of_cell, cells_in}
 use Rattle.cpl_restart.specs.declared.start_error.StartError.TheVariants.{Parts}
 use Rattle.cpl_restart.proofs.Cells.{all_is_front, cell_room}
 use Rattle.cpl_restart.proofs.Least.{least_none, least_some}

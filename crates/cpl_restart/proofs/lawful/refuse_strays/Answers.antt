@@ -4,7 +4,7 @@ use Rattle.std.specs.Int.RustNames.{FitsSigned}
 use Rattle.std.proofs.lemmas.Int.{to_z-of_z}
 use Rattle.cpl_fixed.specs.Amounts.{at}
 use Rattle.cpl_restart.specs.Lawful.{if_none, is_left, is_stray}
-use Rattle.cpl_restart.specs.States.{cells_in}
+use Rattle.cpl_state.specs.States.{cells_in}
 use Rattle.cpl_restart.specs.declared.lawful.Spot.{Spot}
 use Rattle.cpl_restart.specs.declared.start_error.StartError.TheVariants.{Dry}
 use Rattle.cpl_restart.proofs.Cells.{some_cells, cell_below}

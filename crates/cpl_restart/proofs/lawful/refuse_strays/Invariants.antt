@@ -1,6 +1,6 @@
 use Rattle.std.proofs.Common.{◌≡◌, ℕ, ◌<◌, false}
 use Rattle.cpl_restart.specs.Lawful.{is_stray, spot_at}
-use Rattle.cpl_restart.specs.States.{cells_in}
+use Rattle.cpl_state.specs.States.{cells_in}
 use Rattle.cpl_restart.proofs.lawful.refuse_strays.Given as goal
 
 abbrev pub invariant-loop-place : goal.invariant-loop-place

@@ -3,7 +3,7 @@ use mir.Val.{SFits}
 use Rattle.std.specs.Prelude.{◌≤ℤ◌, ◌-ℤ◌}
 use Rattle.std.proofs.lemmas.Int.{ints}
 use Rattle.std.proofs.lemmas.List.{take_all}
-use Rattle.cpl_restart.specs.Diffusion.{total_of}
+use Rattle.cpl_state.specs.Diffusion.{total_of}
 use Rattle.cpl_samples.proofs.Lists.{each_more, not_below, total_more}
 use Rattle.cpl_samples.proofs.amounts.are_amounts.Goals as goal
 

@@ -1,6 +1,6 @@
 use Rattle.std.proofs.Common.{◌≡◌, ℕ, ◌<◌, get_or, take, pos}
 use Rattle.std.specs.Prelude.{ℤ, ◌≤ℤ◌}
-use Rattle.cpl_restart.specs.Diffusion.{total_of}
+use Rattle.cpl_state.specs.Diffusion.{total_of}
 use Rattle.cpl_samples.proofs.amounts.are_amounts.Given as goal
 
 abbrev pub invariant-loop-x : goal.invariant-loop-x

@@ -1,6 +1,6 @@
 use Rattle.std.proofs.Common.{◌≡◌, ◌∙◌, length, arith, subst, ℕ}
 use Rattle.std.proofs.lemmas.List.{take_at}
-use Rattle.cpl_restart.specs.Diffusion.{cell_count}
+use Rattle.cpl_state.specs.Diffusion.{cell_count}
 use Rattle.cpl_sea.specs.Lists.{HasSides, by_both}
 use Rattle.cpl_sea.proofs.Entered.{are_all, firsts_within, seconds_within}
 use Rattle.cpl_sea.proofs.cell_faces.cell_faces.Goals as goal

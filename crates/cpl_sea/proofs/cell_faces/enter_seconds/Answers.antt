@@ -1,5 +1,5 @@
 use Rattle.std.proofs.Common.{length, get_or, refl}
-use Rattle.cpl_restart.specs.Transport.{no_face}
+use Rattle.cpl_state.specs.Transport.{no_face}
 use Rattle.cpl_sea.proofs.Entered.{second_entered}
 use Rattle.cpl_sea.proofs.cell_faces.enter_seconds.Goals as goal
 

@@ -3,7 +3,7 @@ use Rattle.std.proofs.lemmas.Int.{ints}
 use Rattle.cpl_fixed.specs.Amounts.{IsAmount, at}
 use Rattle.cpl_transport.specs.Mixing.{sum_of}
 use Rattle.cpl_transport.proofs.Bounds.{own_amount, read}
-use Rattle.cpl_restart.specs.Diffusion.{AreAmounts}
+use Rattle.cpl_state.specs.Diffusion.{AreAmounts}
 use Rattle.cpl_diffusion.proofs.Conserved.{amount_at}
 use Rattle.cpl_sea.proofs.Rows.{column_amount, place_below}
 use Rattle.cpl_sea.proofs.columns.column_water.Goals as goal

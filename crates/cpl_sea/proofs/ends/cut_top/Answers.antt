@@ -9,7 +9,7 @@ use Rattle.cpl_transport.specs.Cuts.{cut_of, uncut}
 use Rattle.cpl_transport.specs.Salts.{IsSalty}
 use Rattle.cpl_transport.proofs.Bounds.{own_amount, read}
 use Rattle.cpl_transport.proofs.Frazil.{cut_flight, uncut_salty}
-use Rattle.cpl_restart.specs.Cut.{to_ice_numbers}
+use Rattle.cpl_state.specs.Cut.{to_ice_numbers}
 use Rattle.cpl_faces.proofs.Listed.{flat_map_next}
 use Rattle.cpl_sea.specs.Passes.{top_at}
 use Rattle.cpl_sea.proofs.Writes.{at_all}

@@ -1,7 +1,7 @@
 use Rattle.std.proofs.Common.{◌≡◌, ℕ, ◌*◌, ◌<◌, ◌≤◌, take}
 use Rattle.std.specs.List.{flat_map, range_with_len}
 use Rattle.cpl_transport.specs.Cuts.{cut_of, uncut}
-use Rattle.cpl_restart.specs.Cut.{to_ice_numbers}
+use Rattle.cpl_state.specs.Cut.{to_ice_numbers}
 use Rattle.cpl_sea.specs.Passes.{top_at}
 use Rattle.cpl_sea.proofs.ends.cut_top.Given as goal
 

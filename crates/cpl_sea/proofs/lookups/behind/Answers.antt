@@ -6,7 +6,7 @@ use Rattle.cpl_mosaic.specs.declared.mosaic.Mesh.{Mesh}
 use Rattle.cpl_mosaic.specs.Sides.{CellSide, opposite}
 use Rattle.cpl_mosaic.specs.Cells.{cell_of, number_of}
 use Rattle.cpl_mosaic.specs.Mates.{mate_of}
-use Rattle.cpl_restart.specs.Transport.{behind, is_open, open_or}
+use Rattle.cpl_state.specs.Transport.{behind, is_open, open_or}
 use Rattle.cpl_sea.proofs.lookups.behind.Goals as goal
 
 choice_true : (b : Bool) (m n : ℕ) → b ≡ true → (if b then m else n) ≡ m

@@ -4,8 +4,8 @@ use Rattle.std.proofs.lemmas.List.{map_more, take_all}
 use Rattle.cpl_mosaic.specs.declared.mosaic.Mesh.{Mesh}
 use Rattle.cpl_faces.specs.declared.face.Face.{Face}
 use Rattle.cpl_faces.specs.Faces.{faces_of}
-use Rattle.cpl_restart.specs.Diffusion.{cell_count}
-use Rattle.cpl_restart.specs.Transport.{face_at, no_face}
+use Rattle.cpl_state.specs.Diffusion.{cell_count}
+use Rattle.cpl_state.specs.Transport.{face_at, no_face}
 use Rattle.cpl_sea.specs.declared.links.Link.{Link}
 use Rattle.cpl_sea.specs.Links.{link_of, links_of}
 use Rattle.cpl_sea.specs.Seas.{IsOcean}

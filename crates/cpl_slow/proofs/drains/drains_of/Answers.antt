@@ -9,7 +9,7 @@ use Rattle.cpl_mosaic.specs.Cells.{number_of, NumbersAgree}
 use Rattle.cpl_xgrid.specs.declared.grid.Grid.{Grid}
 use Rattle.cpl_xgrid.specs.declared.parts.Outlet.{Outlet}
 use Rattle.cpl_xgrid.specs.Grids.{IsGrid}
-use Rattle.cpl_restart.specs.Slow.{no_outlet, outlet_at}
+use Rattle.cpl_state.specs.Slow.{no_outlet, outlet_at}
 use Rattle.cpl_slow.specs.declared.drains.Drain.{Drain}
 use Rattle.cpl_slow.specs.Drains.{AreDrainsTo}
 use Rattle.cpl_laws.proofs.Outlets.{IsOutlet, outlet_in}

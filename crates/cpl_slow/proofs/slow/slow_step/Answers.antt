@@ -1,8 +1,8 @@
 use Rattle.std.proofs.Common.{◌∙◌, ◌≤◌, ◌^◌, arith}
 use Rattle.cpl_laws.specs.Once.{IsNumbered}
 use Rattle.cpl_laws.proofs.SlowKept.{keeps_slow}
-use Rattle.cpl_restart.specs.States.{land_cells, ocean_cells}
-use Rattle.cpl_restart.specs.Slow.{arrived, runoff_of}
+use Rattle.cpl_state.specs.States.{land_cells, ocean_cells}
+use Rattle.cpl_state.specs.Slow.{arrived, runoff_of}
 use Rattle.cpl_slow.proofs.Summed.{gains_are, sums_are}
 use Rattle.cpl_slow.proofs.Whole.{has_ice, ready, slow_is}
 use Rattle.cpl_slow.proofs.slow.slow_step.Goals as goal

@@ -2,8 +2,8 @@ use Rattle.std.proofs.Common.{◌≡◌, refl, subst, ℕ, ◌*◌, ◌<◌, ◌
 use Rattle.std.specs.Prelude.{ℤ, pos}
 use Rattle.std.proofs.lemmas.List.FromFn.{fill_by_all}
 use Rattle.cpl_fixed.specs.Amounts.{at}
-use Rattle.cpl_restart.specs.States.{of_cell}
-use Rattle.cpl_restart.specs.FastStep.{for_each}
+use Rattle.cpl_state.specs.States.{of_cell}
+use Rattle.cpl_state.specs.FastStep.{for_each}
 use Rattle.cpl_slow.specs.Blocks.{IsPartWay}
 use Rattle.cpl_slow.proofs.Writes.{part_way_all}
 use Rattle.cpl_slow.proofs.take.spread.Goals as goal

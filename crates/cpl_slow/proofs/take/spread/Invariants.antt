@@ -1,7 +1,7 @@
 use Rattle.std.proofs.Common.{◌≡◌, ℕ, ◌<◌, ◌*◌}
 use Rattle.std.specs.Prelude.{pos}
 use Rattle.cpl_fixed.specs.Amounts.{at}
-use Rattle.cpl_restart.specs.States.{of_cell}
+use Rattle.cpl_state.specs.States.{of_cell}
 use Rattle.cpl_slow.specs.Blocks.{IsPartWay}
 use Rattle.cpl_slow.proofs.take.spread.Given as goal
 

@@ -1,7 +1,7 @@
 use Rattle.std.proofs.Common.{◌≡◌, ◌*◌, ◌^◌}
 use Rattle.std.specs.Prelude.{pos, ◌≤ℤ◌}
 use Rattle.cpl_fixed.specs.Totals.{total_of}
-use Rattle.cpl_restart.specs.FastStep.{for_each}
+use Rattle.cpl_state.specs.FastStep.{for_each}
 use Rattle.cpl_slow.specs.Land.{gain_at}
 use Rattle.cpl_slow.proofs.tally.gain_sums.Given as goal
 

@@ -4,7 +4,7 @@ use Rattle.cpl_fixed.specs.Results.{◌>>=◌, Fails}
 use Rattle.cpl_gridfile.specs.Reading.{coupled_grid_of}
 use Rattle.cpl_restart.specs.RestartBytes.{whole_of}
 use Rattle.cpl_restart.specs.Sections.{is_memory}
-use Rattle.cpl_restart.specs.declared.whole.Whole.{Whole}
+use Rattle.cpl_state.specs.declared.whole.Whole.{Whole}
 use Rattle.cpl_top.specs.Causes.{Refuses}
 use Rattle.cpl_top.specs.Judging.{as_grid, as_start, start_status}
 use Rattle.cpl_top.specs.Migrate.{migrate_reply}

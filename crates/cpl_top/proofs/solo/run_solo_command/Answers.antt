@@ -4,7 +4,7 @@ use Rattle.cpl_gridfile.specs.Reading.{air_grid_of}
 use Rattle.cpl_restart.specs.AirBytes.{air_of}
 use Rattle.cpl_fixed.specs.Totals.{total_of}
 use Rattle.cpl_fixed.specs.declared.limits.TheConstants.{MOST_TOTAL}
-use Rattle.cpl_restart.specs.Diffusion.{cell_count}
+use Rattle.cpl_state.specs.Diffusion.{cell_count}
 use Rattle.cpl_fixed.specs.declared.words.Quantity.TheVariants.{Heat, Water}
 use Rattle.cpl_top.specs.Judging.{budget}
 use Rattle.cpl_top.proofs.Judging.{judged_to}

@@ -2,7 +2,7 @@ use Rattle.std.proofs.Common.{◌∙◌, sym, ap, subst, ℕ, Vec, Global}
 use Rattle.cpl_stocks.specs.Tables.{stocks_text, exchanges_text}
 use Rattle.cpl_xgrid.specs.declared.grid.Grid.{Grid}
 use Rattle.cpl_xgrid.specs.Grids.{IsGrid}
-use Rattle.cpl_restart.specs.States.{IsWhole}
+use Rattle.cpl_state.specs.States.{IsWhole}
 use Rattle.cpl_top.specs.Runs.{run_outputs}
 use Rattle.cpl_top.proofs.Outcomes.{reply_is}
 use Rattle.cpl_top.proofs.whole.run_reply.Goals as goal

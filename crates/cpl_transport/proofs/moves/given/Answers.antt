@@ -1,9 +1,12 @@
-use Rattle.std.proofs.Common.{◌≡◌, ◌∙◌, sym, subst, arith, ℕ, pos, ℤ}
+use Rattle.std.proofs.Common.{◌≡◌, ◌∙◌, sym, ap, subst, arith, ℕ, pos, ℤ}
 use Rattle.std.proofs.lemmas.Int.{ints}
 use Rattle.cpl_fixed.specs.Amounts.{IsAmount, amount}
+use Rattle.cpl_ice.specs.declared.parts.Salty.{Salty}
+use Rattle.cpl_transport.specs.Heights.{IsFaceNumber}
 use Rattle.cpl_transport.specs.Moves.{carried, correction, moved}
 use Rattle.cpl_transport.specs.Salts.{IsEighth}
 use Rattle.cpl_transport.proofs.Bounds.{own_amount, own_eighth, read}
+use Rattle.cpl_transport.proofs.Leaving.{moved_face}
 use Rattle.cpl_transport.proofs.moves.given.Goals as goal
 
 -- the water that was moved, as it is read again
@@ -44,3 +47,7 @@ returns-clause-eighths c = record {
   heat = read_eighth c.args.here.heat c.carried.result c.requires.here.heat c.carried.ensures.eighth;
   salt = read_eighth c.args.here.salt c.carried-2.result c.requires.here.salt c.carried-2.ensures.eighth;
 }
+
+pub returns-clause-face : goal.returns-clause-face
+returns-clause-face c =
+    subst IsFaceNumber (sym (ap (λ (it : Salty). it.water) (returns-clause-value c))) (moved_face c.args.u c.args.here.water c.requires.number)

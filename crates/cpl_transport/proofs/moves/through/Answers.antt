@@ -2,10 +2,11 @@ use Rattle.std.proofs.Common.{◌≡◌, ◌∙◌, refl, sym, ap, subst, arith,
 use Rattle.std.specs.Prelude.{negsuc, ◌<ℤ◌}
 use Rattle.std.proofs.lemmas.Int.{ints}
 use Rattle.cpl_ice.specs.declared.parts.Salty.{Salty}
+use Rattle.cpl_transport.specs.Heights.{IsFaceNumber}
 use Rattle.cpl_transport.specs.Moves.{given, through}
 use Rattle.cpl_transport.specs.Salts.{AreOutflows, AreSmall, turned}
 use Rattle.cpl_transport.proofs.Bounds.{read}
-use Rattle.cpl_transport.proofs.Leaving.{eighths_small, enter, leave, outflows_small}
+use Rattle.cpl_transport.proofs.Leaving.{eighths_small, enter, leave, other_way, outflows_small}
 use Rattle.cpl_transport.proofs.moves.through.Goals as goal
 
 outward : (u : ℤ) (behind here there beyond : Salty) → pos 0 ≤ℤ u → given u behind here there ≡ through u behind here there beyond
@@ -48,3 +49,10 @@ pub returns-else-u-ge0-clause-small : goal.returns-else-u-ge0-clause-small
 returns-else-u-ge0-clause-small c =
     let is = enter c.args.here c.args.there c.given-else-u-ge0.result c.requires.here c.given-else-u-ge0.ensures.eighths in
     subst AreSmall (sym c.turned.ensures) (outflows_small c.args.here c.args.there (turned c.given-else-u-ge0.result) c.requires.here c.requires.there is)
+
+pub returns-then-u-ge0-clause-face : goal.returns-then-u-ge0-clause-face
+returns-then-u-ge0-clause-face c = c.given.ensures.face
+
+pub returns-else-u-ge0-clause-face : goal.returns-else-u-ge0-clause-face
+returns-else-u-ge0-clause-face c =
+    subst IsFaceNumber (sym (ap (λ (it : Salty). it.water) c.turned.ensures)) (other_way c.given-else-u-ge0.result.water c.given-else-u-ge0.ensures.face)

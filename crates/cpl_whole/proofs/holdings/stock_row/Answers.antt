@@ -1,4 +1,4 @@
-use Rattle.cpl_restart.specs.Stocks.{sum_of_stocks}
+use Rattle.cpl_state.specs.Stocks.{sum_of_stocks}
 use Rattle.cpl_plan.specs.Sums.{held_of}
 use Rattle.cpl_whole.proofs.Holds.{fit_each, fit_total}
 use Rattle.cpl_whole.proofs.Words.{amount_word, heat_word, row_word, same_word, stored_word}

@@ -1,6 +1,6 @@
 use Rattle.std.proofs.Common.{◌∙◌, subst}
 use Rattle.cpl_fixed.specs.Amounts.{IsAmount}
-use Rattle.cpl_restart.specs.Stocks.{sum_of_stocks}
+use Rattle.cpl_state.specs.Stocks.{sum_of_stocks}
 use Rattle.cpl_plan.specs.Sums.{held_of}
 use Rattle.cpl_whole.proofs.Holds.{fit_each, first_wide, over_wide, flying_wide, rest_wide, all_amount, all_sum}
 use Rattle.cpl_whole.proofs.Words.{amount_wide, amount_word, same_word, wide, word}

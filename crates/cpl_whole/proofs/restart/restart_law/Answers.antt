@@ -1,8 +1,8 @@
 use Rattle.std.proofs.Common.{sym, subst}
-use Rattle.cpl_restart.specs.Diffusion.{IsAirMesh}
+use Rattle.cpl_state.specs.Diffusion.{IsAirMesh}
 use Rattle.cpl_xgrid.specs.declared.grid.Grid.{Grid}
 use Rattle.cpl_xgrid.specs.Grids.{IsGrid}
-use Rattle.cpl_restart.specs.CouplingStep.{state_after}
+use Rattle.cpl_state.specs.CouplingStep.{state_after}
 use Rattle.cpl_course.specs.Course.{IsGround}
 use Rattle.cpl_whole.specs.Journeys.{rest_of}
 use Rattle.cpl_whole.proofs.Course.{can_travel, lawful}

@@ -1,5 +1,5 @@
 use Rattle.std.proofs.Common.{sym, subst, []}
-use Rattle.cpl_restart.specs.declared.whole.Whole.{Whole}
+use Rattle.cpl_state.specs.declared.whole.Whole.{Whole}
 use Rattle.cpl_whole.specs.Journeys.{CanTravel, HasSetOut, IsJourney}
 use Rattle.cpl_whole.proofs.run.run_on.Goals as goal
 

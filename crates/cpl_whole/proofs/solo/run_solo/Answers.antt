@@ -1,5 +1,5 @@
 use Rattle.std.proofs.Common.{◌≡◌, ◌∙◌, sym, subst, ap, ℕ, ◌+◌, arith, add-one}
-use Rattle.cpl_restart.specs.Diffusion.{AreAmounts, cell_count, diffused, diffused_by, total_of}
+use Rattle.cpl_state.specs.Diffusion.{AreAmounts, cell_count, diffused, diffused_by, total_of}
 use Rattle.cpl_mosaic.specs.declared.mosaic.Mesh.{Mesh}
 use Rattle.std.specs.Prelude.{ℤ, List}
 use Rattle.cpl_diffusion.specs.Steps.{IsRoom}

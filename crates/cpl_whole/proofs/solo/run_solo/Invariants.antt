@@ -1,5 +1,5 @@
 use Rattle.std.proofs.Common.{◌≡◌}
-use Rattle.cpl_restart.specs.Diffusion.{AreAmounts, cell_count, diffused_by, total_of}
+use Rattle.cpl_state.specs.Diffusion.{AreAmounts, cell_count, diffused_by, total_of}
 use Rattle.cpl_diffusion.specs.Steps.{IsRoom}
 use Rattle.cpl_whole.proofs.solo.run_solo.Given as goal
 

@@ -1,6 +1,6 @@
 use Rattle.std.proofs.Common.{◌∙◌, sym, ap, subst}
 use Rattle.cpl_fast.specs.declared.fast.FastTally.{FastTally}
-use Rattle.cpl_restart.specs.States.{IsWhole}
+use Rattle.cpl_state.specs.States.{IsWhole}
 use Rattle.cpl_whole.proofs.Holds.{entered_is, left_is, gave_is, hold, took_is}
 use Rattle.cpl_whole.proofs.step.step_on.Goals as goal
 
@@ -43,5 +43,5 @@ returns-clause-gave c =
 pub returns-clause-took : goal.returns-clause-took
 returns-clause-took c =
     c.step_tally.ensures.took
-    ∙ took_is c.args.grid.now c.args.whole.now c.holdings_of-before.result (hold c.args.grid.now c.args.whole.now c.holdings_of-before.result c.holdings_of-before.ensures) c.args.names.now
+    ∙ took_is c.args.grid.now c.args.whole.now c.holdings_of-before.result (hold c.args.grid.now c.args.whole.now c.holdings_of-before.result c.holdings_of-before.ensures) c.args.names.now c.couple-moved.ensures.keeps
     c.couple-moved.result.fast.took c.couple-moved.result.slow.took (ap (λ (t : FastTally). t.took) c.couple-moved.ensures.moved) c.couple-moved.ensures.took

@@ -1,10 +1,10 @@
 use Rattle.std.proofs.Common.{◌≡◌, ◌∙◌, sym, ap, subst, List, suc, ◌+◌, ℕ, arith}
 use Rattle.std.specs.Prelude.{ℤ, OnOk, IfOk}
-use Rattle.cpl_restart.specs.declared.whole.Whole.{Whole}
-use Rattle.cpl_restart.specs.Diffusion.{IsAirMesh}
+use Rattle.cpl_state.specs.declared.whole.Whole.{Whole}
+use Rattle.cpl_state.specs.Diffusion.{IsAirMesh}
 use Rattle.cpl_xgrid.specs.declared.grid.Grid.{Grid}
 use Rattle.cpl_xgrid.specs.Grids.{IsGrid}
-use Rattle.cpl_restart.specs.CouplingStep.{state_after, step_after, step_entered, step_gave, step_left, step_took}
+use Rattle.cpl_state.specs.CouplingStep.{state_after, step_after, step_entered, step_gave, step_left, step_took}
 use Rattle.cpl_course.specs.Course.{IsGround, KeepsCoupling}
 use Rattle.cpl_whole.specs.declared.tally.StepTally.{StepTally}
 use Rattle.cpl_whole.proofs.Course.{can_travel, couples, keeps, lent_couples}

@@ -2,7 +2,7 @@ use Rattle.std.proofs.Common.{get_or, pos, rules, arith}
 use mir.Val.{SFits}
 use mir.Syntax.{w64}
 use Rattle.std.proofs.lemmas.Int.{ints}
-use Rattle.cpl_restart.specs.Diffusion.{IsAirArea}
+use Rattle.cpl_state.specs.Diffusion.{IsAirArea}
 use Rattle.cpl_samples.proofs.Lists.{each_more}
 use Rattle.cpl_whole_tests.proofs.runs.are_areas.Goals as goal
 

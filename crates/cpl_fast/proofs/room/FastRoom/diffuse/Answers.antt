@@ -1,6 +1,6 @@
 use Rattle.std.proofs.Common.{◌∙◌, ap}
-use Rattle.cpl_restart.specs.Diffusion.{diffused}
-use Rattle.cpl_restart.specs.FastStep.{air_heat_after, air_vapour_after}
+use Rattle.cpl_state.specs.Diffusion.{diffused}
+use Rattle.cpl_state.specs.FastStep.{air_heat_after, air_vapour_after}
 use Rattle.cpl_fast.proofs.room.FastRoom.diffuse.Goals as goal
 
 pub returns-clause-air : goal.returns-clause-air

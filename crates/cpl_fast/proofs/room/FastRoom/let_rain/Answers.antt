@@ -1,6 +1,6 @@
 use Rattle.std.proofs.Common.{◌∙◌, refl, sym, ap, arith, length}
 use Rattle.std.proofs.lemmas.List.{with_items_is}
-use Rattle.cpl_restart.specs.FastStep.{heat_after_rain, rain, vapour_after_rain}
+use Rattle.cpl_state.specs.FastStep.{heat_after_rain, rain, vapour_after_rain}
 use Rattle.cpl_fast.specs.declared.air.Rained.{Rained}
 use Rattle.cpl_fast.specs.Stages.{step_of}
 use Rattle.cpl_fast.proofs.Parts.{amount_cast, amount_fits_wide}

@@ -1,7 +1,7 @@
 use Rattle.std.proofs.Common.{◌∙◌, ap, subst, sym, arith, length}
 use Rattle.std.proofs.lemmas.List.{with_items_is}
 use Rattle.cpl_laws.specs.Once.{IsNumbered}
-use Rattle.cpl_restart.specs.FastStep.{Before}
+use Rattle.cpl_state.specs.FastStep.{Before}
 use Rattle.cpl_fast.specs.Filled.{AreSkies}
 use Rattle.cpl_fast.specs.Rooms.{before_step}
 use Rattle.cpl_fast.proofs.Looking.{side_in_range, skies_seen}

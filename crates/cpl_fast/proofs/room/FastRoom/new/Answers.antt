@@ -1,6 +1,6 @@
 use Rattle.std.proofs.Common.{◌≡◌, ◌∙◌, refl, rules, sym, ap, subst, ℕ, ◌*◌, arith, length}
 use Rattle.cpl_xgrid.specs.declared.parts.Surface.TheVariants.{Land, Ocean}
-use Rattle.cpl_restart.specs.States.{ocean_cells, part_count}
+use Rattle.cpl_state.specs.States.{ocean_cells, part_count}
 use Rattle.cpl_fast.specs.Tables.{AreLinks}
 use Rattle.cpl_fast.proofs.Filling.{ends_by, no_areas}
 use Rattle.cpl_fast.proofs.room.FastRoom.new.Goals as goal

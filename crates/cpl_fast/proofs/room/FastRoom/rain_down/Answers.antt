@@ -2,7 +2,7 @@ use Rattle.std.proofs.Common.{◌≡◌, ◌∙◌, refl, sym, ap, subst, arith}
 use Rattle.std.specs.Prelude.{◌+ℤ◌}
 use Rattle.std.proofs.lemmas.List.{with_items_is}
 use Rattle.cpl_xgrid.specs.declared.parts.Surface.TheVariants.{Land, Ocean}
-use Rattle.cpl_restart.specs.FastStep.{Before, entered, rain_on}
+use Rattle.cpl_state.specs.FastStep.{Before, entered, rain_on}
 use Rattle.cpl_fast.specs.declared.stages.Flown.{Flown}
 use Rattle.cpl_fast.specs.declared.sums.Sums.{Sums}
 use Rattle.cpl_fast.specs.Stages.{AreFlows, IsFlown, IsLawful, step_of}

@@ -12,7 +12,7 @@ use Rattle.cpl_fast.specs.Rooms.{ArePartAreas, HasTables}
 use Rattle.cpl_xgrid.specs.declared.grid.Grid.{Grid}
 use Rattle.cpl_xgrid.specs.declared.parts.Surface.{Surface}
 use Rattle.cpl_fast.specs.Tables.{CanSumAreas, cells_on}
-use Rattle.cpl_restart.specs.States.{ocean_cells, part_count}
+use Rattle.cpl_state.specs.States.{ocean_cells, part_count}
 use Rattle.cpl_fast.proofs.Filling.{ends_by, ends_in}
 use Rattle.cpl_fast.proofs.Dividing.{areas_natural, can_sum_cell, land_shares, land_tiles, ocean_shares, ocean_tiles, parts_divided}
 use Rattle.cpl_fast.proofs.room.FastRoom.set_areas.Goals as goal

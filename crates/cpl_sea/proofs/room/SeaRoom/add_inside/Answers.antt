@@ -3,9 +3,9 @@ use Rattle.std.specs.Prelude.{ℤ, ◌+ℤ◌, map}
 use Rattle.std.specs.List.{range_with_len}
 use Rattle.std.proofs.lemmas.List.{with_items_is}
 use Rattle.cpl_fixed.specs.Amounts.{at}
-use Rattle.cpl_restart.specs.Diffusion.{cell_count}
-use Rattle.cpl_restart.specs.Cut.{with_flight}
-use Rattle.cpl_restart.specs.Transport.{Sea}
+use Rattle.cpl_state.specs.Diffusion.{cell_count}
+use Rattle.cpl_state.specs.Cut.{with_flight}
+use Rattle.cpl_state.specs.Transport.{Sea}
 use Rattle.cpl_mosaic.specs.declared.mosaic.Mesh.{Mesh}
 use Rattle.cpl_sea.specs.Rooms.{sea_in}
 use Rattle.cpl_sea.proofs.Ready.{lent}

@@ -1,7 +1,7 @@
 use Rattle.std.proofs.Common.{◌∙◌, refl, ap, arith, ℤ, List, Vec, Global, length}
 use Rattle.std.proofs.lemmas.List.{with_items_is}
 use Rattle.cpl_fixed.specs.Amounts.{at}
-use Rattle.cpl_restart.specs.Diffusion.{cell_count}
+use Rattle.cpl_state.specs.Diffusion.{cell_count}
 use Rattle.cpl_sea.specs.declared.before.Before.{Before}
 use Rattle.cpl_sea.specs.Passes.{height_over}
 use Rattle.cpl_sea.specs.Rooms.{sea_in}

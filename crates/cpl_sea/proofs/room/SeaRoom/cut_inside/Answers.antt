@@ -4,9 +4,9 @@ use Rattle.std.specs.List.{flat_map, range_with_len}
 use Rattle.std.proofs.lemmas.List.{with_items_is}
 use Rattle.cpl_fixed.specs.Amounts.{at}
 use Rattle.cpl_ice.specs.declared.parts.Salty.{Salty}
-use Rattle.cpl_restart.specs.Diffusion.{cell_count}
-use Rattle.cpl_restart.specs.Cut.{after_cut, cut_off, to_ice_numbers}
-use Rattle.cpl_restart.specs.Transport.{Sea, cell_in}
+use Rattle.cpl_state.specs.Diffusion.{cell_count}
+use Rattle.cpl_state.specs.Cut.{after_cut, cut_off, to_ice_numbers}
+use Rattle.cpl_state.specs.Transport.{Sea, cell_in}
 use Rattle.cpl_mosaic.specs.declared.mosaic.Mesh.{Mesh}
 use Rattle.cpl_transport.specs.Cuts.{cut_of, uncut}
 use Rattle.cpl_sea.specs.Passes.{top_at}

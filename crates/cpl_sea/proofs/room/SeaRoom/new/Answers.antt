@@ -2,7 +2,7 @@ use Rattle.std.proofs.Common.{◌≡◌, ◌∙◌, sym, ap, subst, arith, rules
 use Rattle.std.specs.Prelude.{All}
 use Rattle.std.proofs.lemmas.List.Elements.{All-from_get_or, All-get_or}
 use Rattle.cpl_mosaic.specs.declared.mosaic.Mesh.{Mesh}
-use Rattle.cpl_restart.specs.Transport.{face_count}
+use Rattle.cpl_state.specs.Transport.{face_count}
 use Rattle.cpl_sea.specs.declared.links.CellFaces.{CellFaces}
 use Rattle.cpl_sea.specs.Blocks.{AreReady}
 use Rattle.cpl_sea.specs.Links.{all_cell_faces}

@@ -1,6 +1,6 @@
 use Rattle.std.proofs.Common.{sym, subst, ◌<◌, arith}
 use Rattle.cpl_ice.specs.declared.cell.IceCell.{IceCell}
-use Rattle.cpl_restart.specs.States.{ocean_cells}
+use Rattle.cpl_state.specs.States.{ocean_cells}
 use Rattle.cpl_slow.specs.Land.{gain_at}
 use Rattle.cpl_slow.specs.Ice.{CanSlowCell}
 use Rattle.cpl_slow.proofs.Turning.{cell_left, slowed_all, slowed_more, slowed_none}

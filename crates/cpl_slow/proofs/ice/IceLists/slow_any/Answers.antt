@@ -5,7 +5,7 @@ use Rattle.cpl_fixed.specs.Amounts.{at}
 use Rattle.cpl_xgrid.specs.declared.grid.Grid.{Grid}
 use Rattle.cpl_xgrid.specs.Grids.{IsGrid}
 use Rattle.cpl_ice.specs.declared.cell.IceCell.{IceCell}
-use Rattle.cpl_restart.specs.States.{categories, ice_cell, ocean_cells}
+use Rattle.cpl_state.specs.States.{categories, ice_cell, ocean_cells}
 use Rattle.cpl_slow.specs.Ice.{IsCellPut, with_ice}
 use Rattle.cpl_slow.proofs.Same.{dry_back, dry_put, wet_back, wet_slowed}
 use Rattle.cpl_slow.proofs.ice.IceLists.slow_any.Goals as goal

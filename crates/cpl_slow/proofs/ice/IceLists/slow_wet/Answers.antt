@@ -6,7 +6,7 @@ use Rattle.cpl_fixed.specs.declared.gain.Gain.{Gain}
 use Rattle.cpl_ice.specs.declared.cell.IceCell.{IceCell}
 use Rattle.cpl_ice.specs.Cells.{IsIceCell, IsSalty}
 use Rattle.cpl_ice.specs.Slow.{CanSlow}
-use Rattle.cpl_restart.specs.States.{categories, ice_cell}
+use Rattle.cpl_state.specs.States.{categories, ice_cell}
 use Rattle.cpl_slow.specs.Ice.{with_ice}
 use Rattle.cpl_slow.proofs.Bare.{bare_returned}
 use Rattle.cpl_slow.proofs.Same.{bare_cell, bare_put, skin_heat_fits, skin_water_fits, with_runoff, with_runoff_is}

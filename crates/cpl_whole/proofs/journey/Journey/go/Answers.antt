@@ -2,10 +2,10 @@ use Rattle.std.proofs.Common.{◌∙◌, refl, sym, ap, subst}
 use Rattle.std.specs.Prelude.{pos, ◌≤ℤ◌}
 use Rattle.cpl_fixed.specs.declared.limits.TheConstants.{MOST_TOTAL}
 use Rattle.cpl_fast.specs.declared.fast.FastTally.{FastTally}
-use Rattle.cpl_restart.specs.declared.whole.Whole.{Whole}
-use Rattle.cpl_restart.specs.States.{IsWhole}
-use Rattle.cpl_restart.specs.Stocks.{held}
-use Rattle.cpl_restart.specs.CouplingStep.{step_entered, step_left}
+use Rattle.cpl_state.specs.declared.whole.Whole.{Whole}
+use Rattle.cpl_state.specs.States.{IsWhole}
+use Rattle.cpl_state.specs.Stocks.{held}
+use Rattle.cpl_state.specs.CouplingStep.{step_entered, step_left}
 use Rattle.cpl_course.specs.Course.{in_flight}
 use Rattle.cpl_whole.proofs.Holds.{entered_is, left_is, fit_rows, flying_is, gave_is, hold, took_is}
 use Rattle.cpl_whole.proofs.Words.{more_fits, more_word}
@@ -63,7 +63,7 @@ returns-clause-crossed c =
           ∙ gave_is c.args.grid.now c.args.names.now c.args.self.now.state c.couple-moved.ensures.keeps c.couple-moved.new.whole c.holdings_of-after.result holds c.couple-moved.ensures.value
           c.couple-moved.result.fast.gave c.couple-moved.result.slow.gave (ap (λ (t : FastTally). t.gave) c.couple-moved.ensures.moved) c.couple-moved.ensures.gave;
       took = c.between-crossing.ensures.took ∙ c.step_tally-tally.ensures.took
-          ∙ took_is c.args.grid.now c.args.self.now.state c.args.self.now.held c.requires.can.holds c.args.names.now
+          ∙ took_is c.args.grid.now c.args.self.now.state c.args.self.now.held c.requires.can.holds c.args.names.now c.couple-moved.ensures.keeps
           c.couple-moved.result.fast.took c.couple-moved.result.slow.took (ap (λ (t : FastTally). t.took) c.couple-moved.ensures.moved) c.couple-moved.ensures.took;
       after = c.between-crossing.ensures.after ∙ flying_is c.args.grid.now c.couple-moved.new.whole c.holdings_of-after.result holds ∙ ap (in_flight c.args.grid.now) c.couple-moved.ensures.value;
     }

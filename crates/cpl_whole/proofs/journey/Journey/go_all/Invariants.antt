@@ -1,4 +1,4 @@
-use Rattle.cpl_couple.specs.Rooms.{IsStepRoom}
+use Rattle.cpl_whole.specs.Rooms.{IsStepRoom}
 use Rattle.cpl_whole.specs.Journeys.{IsJourney}
 use Rattle.cpl_whole.proofs.journey.Journey.go_all.Given as goal
 

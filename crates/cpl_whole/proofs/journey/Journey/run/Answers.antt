@@ -1,6 +1,6 @@
 use Rattle.std.proofs.Common.{refl, sym, ap, subst, []}
 use Rattle.std.specs.Prelude.{OnOk}
-use Rattle.cpl_restart.specs.declared.whole.Whole.{Whole}
+use Rattle.cpl_state.specs.declared.whole.Whole.{Whole}
 use Rattle.cpl_whole.specs.declared.journey.Journey.{Journey}
 use Rattle.cpl_whole.specs.Journeys.{CanTravel, IsJourney}
 use Rattle.cpl_whole.proofs.Going.{first_is, first_tell}

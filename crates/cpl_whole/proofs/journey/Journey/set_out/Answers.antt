@@ -1,5 +1,5 @@
 use Rattle.std.proofs.Common.{refl, sym, subst}
-use Rattle.cpl_restart.specs.declared.whole.Whole.{Whole}
+use Rattle.cpl_state.specs.declared.whole.Whole.{Whole}
 use Rattle.cpl_whole.specs.Holdings.{Hold}
 use Rattle.cpl_whole.proofs.Holds.{hold}
 use Rattle.cpl_whole.proofs.journey.Journey.set_out.Goals as goal

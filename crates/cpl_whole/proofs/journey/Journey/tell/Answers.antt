@@ -2,7 +2,7 @@ use Rattle.std.proofs.Common.{◌≡◌, ◌∙◌, refl, sym, ap, subst, List, 
 use Rattle.std.specs.Prelude.{ℤ, pos, ◌≤ℤ◌, OnOk, unsigned_abs}
 use Rattle.cpl_fixed.specs.Amounts.{IsAmount}
 use Rattle.cpl_namelist.specs.Civil.{Fits, civil_after, civil_of}
-use Rattle.cpl_restart.specs.Numbers.{IsStored}
+use Rattle.cpl_state.specs.Stored.{IsStored}
 use Rattle.cpl_stocks.specs.declared.rows.StockRow.{StockRow}
 use Rattle.cpl_whole.specs.Holdings.{holding_of}
 use Rattle.cpl_whole.specs.Rows.{quantities, stock_row_of}

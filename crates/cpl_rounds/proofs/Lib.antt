@@ -1,0 +1,11 @@
+pub mod Blocks
+pub mod Halos
+pub mod States
+pub mod Airs
+pub mod Shapes
+pub mod Ices
+pub mod Seas
+pub mod Areas
+pub mod Seen
+pub mod Numbers
+pub mod Flows

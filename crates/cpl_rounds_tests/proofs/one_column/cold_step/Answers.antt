@@ -1,0 +1,24 @@
+use Rattle.std.proofs.Common.{refl}
+use Rattle.cpl_faces.specs.Faces.{faces_of}
+use Rattle.cpl_namelist.specs.Civil.{date_from}
+use Rattle.cpl_rounds.specs.Rounds.{state_at}
+use Rattle.cpl_state.specs.CouplingStep.{after_fast, month_of, sea_after, step_after, taken}
+use Rattle.cpl_state.specs.Cut.{after_cut, cut_off, with_flight}
+use Rattle.cpl_state.specs.Diffusion.{diffused}
+use Rattle.cpl_state.specs.Elements.{air_number, area_before, areas_in, part_area, refs_of_air_cell, refs_of_surface_cell, share_at, surface_number}
+use Rattle.cpl_state.specs.FastStep.{absorbed, air_heat_after, air_vapour_after, category_taken, fast_after, flux, heat_before_rain, land_taken, rain, rain_on, rain_on_ice, skin_taken, sun_on, to_space, vapour_before_rain}
+use Rattle.cpl_state.specs.Slow.{arrived, drained_cell, outlet_share, outlets_to, returned_at, runoff_of, slow_after, slow_cell, weight_before}
+use Rattle.cpl_state.specs.Transport.{behind, flow_through, next_number, outward, stepped, transported}
+use Rattle.cpl_rounds_tests.proofs.one_column.cold_step.Goals as goal
+
+pub returns-clause-parts : goal.returns-clause-parts
+unfolding state_at taken month_of date_from surface_number air_number refs_of_air_cell refs_of_surface_cell areas_in part_area area_before share_at flux sun_on absorbed to_space heat_before_rain vapour_before_rain rain rain_on fast_after air_heat_after air_vapour_after diffused land_taken skin_taken rain_on_ice category_taken drained_cell weight_before outlet_share runoff_of outlets_to arrived slow_cell returned_at after_fast slow_after sea_after after_cut cut_off step_after with_flight stepped transported flow_through next_number outward behind faces_of
+returns-clause-parts c = refl
+
+pub returns-clause-ice : goal.returns-clause-ice
+unfolding state_at taken month_of date_from surface_number air_number refs_of_air_cell refs_of_surface_cell areas_in part_area area_before share_at flux sun_on absorbed to_space heat_before_rain vapour_before_rain rain rain_on fast_after air_heat_after air_vapour_after diffused land_taken skin_taken rain_on_ice category_taken drained_cell weight_before outlet_share runoff_of outlets_to arrived slow_cell returned_at after_fast slow_after sea_after after_cut cut_off step_after with_flight stepped transported flow_through next_number outward behind faces_of
+returns-clause-ice c = refl
+
+pub returns-clause-heat : goal.returns-clause-heat
+unfolding state_at taken month_of date_from surface_number air_number refs_of_air_cell refs_of_surface_cell areas_in part_area area_before share_at flux sun_on absorbed to_space heat_before_rain vapour_before_rain rain rain_on fast_after air_heat_after air_vapour_after diffused land_taken skin_taken rain_on_ice category_taken drained_cell weight_before outlet_share runoff_of outlets_to arrived slow_cell returned_at after_fast slow_after sea_after after_cut cut_off step_after with_flight stepped transported flow_through next_number outward behind faces_of
+returns-clause-heat c = refl

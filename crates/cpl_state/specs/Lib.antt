@@ -1,0 +1,16 @@
+pub mod Stored
+pub mod Diffusion
+pub mod States
+pub mod Elements
+pub mod FastStep
+pub mod Stocks
+pub mod Budget
+pub mod FastLaws
+pub mod Slow
+pub mod Transport
+pub mod Cut
+pub mod CouplingStep
+pub mod SlowLaws
+pub mod SurfaceLaws
+pub mod Bounds
+pub mod Columns

@@ -1,0 +1,13 @@
+pub mod Counted
+pub mod Turned
+pub mod Uses
+pub mod Numbers
+pub mod Members
+pub mod Scripted
+pub mod Stopped
+pub mod Few
+pub mod Wired
+pub mod Timely
+pub mod Rising
+pub mod InTime
+pub mod Scheduled

@@ -1,0 +1,11 @@
+pub mod Settings
+pub mod Purposes
+pub mod Pairs
+pub mod Edges
+pub mod Turns
+pub mod Stops
+pub mod Times
+pub mod Wirings
+pub mod Laws
+pub mod TimeLaws
+pub mod Schedule
