@@ -5,3 +5,5 @@ pub mod Texts
 pub mod Failures
 pub mod Memory
 pub mod ReadErrors
+pub mod Disk
+pub mod Whole

@@ -56,10 +56,11 @@ impl Failures {
         self.last = Some(FailedCall { access, name });
         Err(ShelfError::Failed)
     }
-    /// What a call answers that met an error of the system: `Memory` where that was want of memory.
+
+    /// What a call answers that met this error.
     pub(crate) fn fail_by<T>(
         &mut self,
-        error: &io::Error,
+        error: ShelfError,
         access: Access,
         name: &str,
     ) -> Result<T, ShelfError>
@@ -68,9 +69,17 @@ impl Failures {
             (failed_call self.old.last) (failed_call self.new.last) }
         ensures err { IsErr result }
     {
-        match error.kind() {
-            io::ErrorKind::OutOfMemory => Err(ShelfError::Memory),
-            _ => self.fail(access, name),
+        match error {
+            ShelfError::Memory => Err(ShelfError::Memory),
+            ShelfError::Failed => self.fail(access, name),
         }
+    }
+}
+
+/// An error of the system, as a shelf answers it: `Memory` where it was want of memory.
+pub(crate) fn shelf_error(error: &io::Error) -> ShelfError {
+    match error.kind() {
+        io::ErrorKind::OutOfMemory => ShelfError::Memory,
+        _ => ShelfError::Failed,
     }
 }

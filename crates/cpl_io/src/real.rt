@@ -3,9 +3,9 @@ ghost use Rattle.std.specs.Prelude.{◌≡◌, ◌≤◌, length, IfOk, ℕ, Boo
 ghost use Rattle.std.specs.FinMap as map;
 ghost use Rattle.cpl_io.specs.Failures.{failed_call};
 
-use crate::failure::{Access, Failures};
-use crate::whole::write_whole;
-use crate::{Shelf, ShelfError, Sink, SinkError};
+use crate::failure::{Access, Failures, shelf_error};
+use crate::system::SystemDisk;
+use crate::{Shelf, ShelfError, Sink, SinkError, write_whole};
 use std::alloc::{AllocError, Global};
 use std::fs::{File, OpenOptions};
 use std::io::{self, Read, Seek, SeekFrom, Write};
@@ -46,10 +46,11 @@ impl Begun {
 /// regular file, as a pipe, a device or `/dev/stdout`, is written as it is. A further `append` adds at the
 /// file's end, and makes the file where there is none.
 ///
-/// It tells no contents. That its calls do to the disk what their names say is trusted, and not proved.
+/// It tells no contents. The way of writing is that of `write_whole`, which is proved of any `Disk`; that the system's disk is
+/// one, and that the other calls do what their names say, is trusted and not proved.
 #[derive(Drop)]
 pub struct FileShelf<R> {
-    rt: R,
+    disk: SystemDisk<R>,
     alloc: Global,
     begun: Begun,
     failures: Failures,
@@ -62,7 +63,7 @@ impl<R: Files + Drop> FileShelf<R> {
         ensures failed { ⟦<FileShelf<R> as Shelf>⟧.failed result ≡ None }
     {
         FileShelf {
-            rt,
+            disk: SystemDisk { rt },
             alloc,
             begun: Begun {
                 alloc,
@@ -86,6 +87,24 @@ fn append_real<R: Files>(rt: &R, name: &str, bytes: &[u8]) -> io::Result<()> {
     file.write_all(bytes)
 }
 
+// Writes what is no regular file as it is.
+fn write_in_place<R: Files>(rt: &R, name: &str, bytes: &[u8]) -> io::Result<()> {
+    File::create(rt, name)?.write_all(bytes)
+}
+
+// Gives a name that was begun its first bytes.
+fn write_first<R: Files + Drop>(
+    disk: &mut SystemDisk<R>,
+    alloc: Global,
+    name: &str,
+    bytes: &[u8],
+) -> Result<(), ShelfError> {
+    if write_whole(alloc, disk, name, bytes)? {
+        return Ok(());
+    }
+    write_in_place(&disk.rt, name, bytes).map_err(|error| shelf_error(&error))
+}
+
 impl<R: Files + Drop> Shelf for FileShelf<R> {
     ghost told = { λ _. false };
 
@@ -99,9 +118,12 @@ impl<R: Files + Drop> Shelf for FileShelf<R> {
         if self.begun.has(name) {
             return Ok(0);
         }
-        match read_real(&self.rt, name, from, buf) {
+        match read_real(&self.disk.rt, name, from, buf) {
             Ok(count) => Ok(count),
-            Err(error) => self.failures.fail_by(&error, Access::Reading, name),
+            Err(error) => {
+                let error = shelf_error(&error);
+                self.failures.fail_by(error, Access::Reading, name)
+            }
         }
     }
 
@@ -114,16 +136,16 @@ impl<R: Files + Drop> Shelf for FileShelf<R> {
 
     fn append(&mut self, name: &str, bytes: &[u8]) -> Result<(), ShelfError> {
         let written = if self.begun.has(name) {
-            write_whole(&self.rt, self.alloc, name, bytes)
+            write_first(&mut self.disk, self.alloc, name, bytes)
         } else {
-            append_real(&self.rt, name, bytes)
+            append_real(&self.disk.rt, name, bytes).map_err(|error| shelf_error(&error))
         };
         match written {
             Ok(()) => {
                 self.begun.remove(name);
                 Ok(())
             }
-            Err(error) => self.failures.fail_by(&error, Access::Writing, name),
+            Err(error) => self.failures.fail_by(error, Access::Writing, name),
         }
     }
 }

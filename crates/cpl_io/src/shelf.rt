@@ -2,6 +2,9 @@
 ghost use Rattle.std.specs.Prelude.{◌≡◌, ◌<◌, ◌≤◌, ◌++◌, ℕ, Bool, [], Option, length, IsTrue, IfOk, OnOk};
 ghost use Rattle.cpl_io.specs.Files.{Files, bytes_of, ReadsAt, Has, OthersStand};
 ghost use Rattle.cpl_io.specs.Causes.{Call, Reading, Writing, FailedAfter};
+ghost use Rattle.cpl_io.specs.declared.shelf.ShelfError.TheVariants as shelf;
+
+use std::alloc::AllocError;
 
 /// Why a call on a shelf failed.
 #[derive(Clone, Copy, Debug, PartialEq, Eq)]
@@ -10,6 +13,14 @@ pub enum ShelfError {
     Failed,
     /// There was no memory.
     Memory,
+}
+
+impl From<AllocError> for ShelfError {
+    ghost from_gives = { λ _ gives. gives ≡ shelf.Memory };
+
+    fn from(_error: AllocError) -> ShelfError {
+        ShelfError::Memory
+    }
 }
 
 /// Files by their names, as the coupler sees them. A name is a text of any bytes; to real files it is a

@@ -2,6 +2,11 @@
 #![tactic(auto)]
 
 #[cfg(test)]
+mod fake;
+#[cfg(test)]
+mod whole;
+
+#[cfg(test)]
 mod tests {
     use cpl_io::{
         FileShelf, MemShelf, MemSink, OutSink, ReadError, Shelf, ShelfError, Sink, SinkError,
