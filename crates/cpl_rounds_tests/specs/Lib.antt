@@ -1,2 +1,3 @@
 pub mod OneColumn
 pub mod TwoCells
+pub mod Pieces

@@ -1,0 +1,4 @@
+pub mod Fields
+pub mod Oceans
+pub mod OceanSteps
+pub mod Airs
