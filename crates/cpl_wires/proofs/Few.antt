@@ -150,19 +150,19 @@ uses_few names are Sums = let most = are.steps in omega arith
 
 -- ACTIONS
 
-fast_few : (component : Component) → length (fast_moves component) ≤ 9
+pub fast_few : (component : Component) → length (fast_moves component) ≤ 9
 fast_few Atmos = omega arith
 fast_few Land = omega arith
 fast_few Ice = omega arith
 fast_few Ocean = omega arith
 
-ocean_few : (component : Component) → length (ocean_moves component) ≤ 4
+pub ocean_few : (component : Component) → length (ocean_moves component) ≤ 4
 ocean_few Atmos = omega arith
 ocean_few Land = omega arith
 ocean_few Ice = omega arith
 ocean_few Ocean = omega arith
 
-opening_few : (component : Component) (first : Bool) → length (opening component first) ≤ 2
+pub opening_few : (component : Component) (first : Bool) → length (opening component first) ≤ 2
 opening_few Atmos first = omega arith
 opening_few Land first = omega arith
 opening_few Ice true = omega arith
@@ -170,7 +170,7 @@ opening_few Ice false = omega arith
 opening_few Ocean true = omega arith
 opening_few Ocean false = omega arith
 
-closing_few : (component : Component) (last : Bool) → length (closing component last) ≤ 3
+pub closing_few : (component : Component) (last : Bool) → length (closing component last) ≤ 3
 closing_few Atmos last = omega arith
 closing_few Land last = omega arith
 closing_few Ice true = omega arith
@@ -178,7 +178,7 @@ closing_few Ice false = omega arith
 closing_few Ocean true = omega arith
 closing_few Ocean false = omega arith
 
-summing_few : (first : Bool) → length (summing first) ≤ 3
+pub summing_few : (first : Bool) → length (summing first) ≤ 3
 summing_few true = omega arith
 summing_few false = omega arith
 

@@ -88,9 +88,6 @@ land_row : {T : Type 0} (a d e : List T) → e ≡ [] → ((a ++ d) ++ e) ++ [] 
 land_row a d e none =
     append-nil ((a ++ d) ++ e) ∙ ap (λ (l : List _). (a ++ d) ++ l) none ∙ append-nil (a ++ d) ∙ sym (ap (λ (l : List _). (a ++ l) ++ d) none ∙ ap (λ (l : List _). l ++ d) (append-nil a))
 
-once_land : (names : Names) (piece : Bool) (n : ℕ) → flat_map (done_in names Land piece) (moments n 0 (RunoffPosted ∷ IceSlowed ∷ [])) ≡ turned n 0 (closing Land (eqb (n + 1) names.steps))
-once_land names piece n = refl
-
 once_ice : (names : Names) (piece : Bool) (n : ℕ) → flat_map (done_in names Ice piece) (moments n 0 (RunoffPosted ∷ IceSlowed ∷ [])) ≡ turned n 0 (closing Ice (eqb (n + 1) names.steps))
 once_ice names piece n = append-nil _
 

@@ -4,6 +4,8 @@ pub mod Pairs
 pub mod Edges
 pub mod Turns
 pub mod Stops
+pub mod Tables
+pub mod Lengths
 pub mod Times
 pub mod Wirings
 pub mod Laws

@@ -1,5 +1,6 @@
 // What edges and scripts are made of.
 use cpl_core::Act;
+use cpl_fixed::Component;
 
 /// What an edge is for. Edges are numbered by purpose in this order, then by the piece that posts, then by the piece that takes.
 /// Defined by this project.
@@ -93,4 +94,19 @@ pub struct Stop {
     pub act: Act,
     pub slot: u32,
     pub turn: Turn,
+}
+
+// How many actions a piece has in each part of its script: in the sums; as the first coupling step opens, and any other; in a fast step;
+// in an ocean step; as a coupling step closes, and as the last one does; and in all.
+#[derive(Clone, Copy)]
+pub(crate) struct Lengths {
+    pub(crate) component: Component,
+    pub(crate) summing: u64,
+    pub(crate) first_opening: u64,
+    pub(crate) opening: u64,
+    pub(crate) fast: u64,
+    pub(crate) ocean: u64,
+    pub(crate) closing: u64,
+    pub(crate) last_closing: u64,
+    pub(crate) actions: u64,
 }

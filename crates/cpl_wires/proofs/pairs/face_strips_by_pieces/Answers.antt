@@ -1,0 +1,15 @@
+use Rattle.std.proofs.Common.{◌≡◌, sym, ◌∙◌, subst}
+use Rattle.std.proofs.lemmas.Result.{IfOk-weaker}
+use Rattle.cpl_xgrid.specs.Groups.{AreKeys, by_key}
+use Rattle.cpl_wires.specs.Tables.{face_strips_by_pieces}
+use Rattle.cpl_wires.proofs.Most.{pairs_most_is}
+use Rattle.cpl_wires.proofs.Keyed.{face_strips_below}
+use Rattle.cpl_wires.proofs.pairs.face_strips_by_pieces.Goals as goal
+
+pub by_key-requires-clause-keys : goal.by_key-requires-clause-keys
+by_key-requires-clause-keys c = subst (AreKeys 4_096) (sym (c.deref.ensures.value ∙ c.in_ok-keys.ensures)) (face_strips_below c.args.strips.now c.requires.pieces)
+
+pub returns : goal.returns
+returns c =
+    IfOk-weaker c.by_key.result (λ groups. groups ≡ by_key 4_096 c.deref.result.now) (λ groups. groups ≡ face_strips_by_pieces c.args.strips.now)
+    (λ groups is. is ∙ (λ t. by_key (sym pairs_most_is t) ((c.deref.ensures.value ∙ c.in_ok-keys.ensures) t))) c.by_key.ensures
