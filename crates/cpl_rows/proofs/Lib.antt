@@ -1,0 +1,9 @@
+pub mod Listed
+pub mod Ended
+pub mod Standing
+pub mod Taken
+pub mod Linked
+pub mod Owned
+pub mod Rowed
+pub mod Numbered
+pub mod Posted
