@@ -35,7 +35,7 @@ front_more in_row rows next old list new i j n column row place front v x sets t
 }
 
 -- seen from the other side
-abbrev Odd : Type 0
+abbrev pub Odd : Type 0
 Odd = (slope : ℕ) (u height other : ℤ) → next_face slope (neg_ℤ u) other height ≡ neg_ℤ (next_face slope u height other)
 
 turned : Odd → (slope : ℕ) (x y : Bool) (u height other : ℤ) → pos 0 -ℤ (if y && x then next_face slope (pos 0 -ℤ u) other height else pos 0) ≡ (if x && y then next_face slope u height other else pos 0)
@@ -58,38 +58,38 @@ module _ (odd : Odd) (area : FieldNumbers) (height : Spot → ℤ) (slope : ℕ)
   opposite_by : (here there : Spot) (u : ℤ) → pos 0 -ℤ by there here (pos 0 -ℤ u) ≡ by here there u
   opposite_by here there u = turned odd slope (is_wet area here) (is_wet area there) u (height here) (height there)
 
-  east_cell : (i j : ℕ) → i + 1 < area.nx → out_from area i j E 1 ≡ CellAt (i + 1) j
+  pub east_cell : (i j : ℕ) → i + 1 < area.nx → out_from area i j E 1 ≡ CellAt (i + 1) j
   east_cell i j l = choose (nat_lt (i + 1) area.nx) (grind (arith, nat_tests))
     where
       choose : (b : Bool) → b ≡ true → (if b then CellAt (i + 1) j else HoleAt E j (i + 1 + 1 - area.nx)) ≡ CellAt (i + 1) j
       choose b e = ap (λ (a : Bool). if a then CellAt (i + 1) j else HoleAt E j (i + 1 + 1 - area.nx)) e
 
-  west_cell : (i j : ℕ) → out_from area (i + 1) j W 1 ≡ CellAt i j
+  pub west_cell : (i j : ℕ) → out_from area (i + 1) j W 1 ≡ CellAt i j
   west_cell i j = choose (nat_le 1 (i + 1)) (grind (arith, nat_tests)) ∙ ap (λ (k : ℕ). CellAt k j) (let e : i + 1 - 1 ≡ i = omega arith in e)
     where
       choose : (b : Bool) → b ≡ true → (if b then CellAt (i + 1 - 1) j else HoleAt W j (1 - (i + 1))) ≡ CellAt (i + 1 - 1) j
       choose b e = ap (λ (a : Bool). if a then CellAt (i + 1 - 1) j else HoleAt W j (1 - (i + 1))) e
 
-  north_cell : (i j : ℕ) → j + 1 < area.ny → out_from area i j N 1 ≡ CellAt i (j + 1)
+  pub north_cell : (i j : ℕ) → j + 1 < area.ny → out_from area i j N 1 ≡ CellAt i (j + 1)
   north_cell i j l = choose (nat_lt (j + 1) area.ny) (grind (arith, nat_tests))
     where
       choose : (b : Bool) → b ≡ true → (if b then CellAt i (j + 1) else HoleAt N i (j + 1 + 1 - area.ny)) ≡ CellAt i (j + 1)
       choose b e = ap (λ (a : Bool). if a then CellAt i (j + 1) else HoleAt N i (j + 1 + 1 - area.ny)) e
 
-  south_cell : (i j : ℕ) → out_from area i (j + 1) S 1 ≡ CellAt i j
+  pub south_cell : (i j : ℕ) → out_from area i (j + 1) S 1 ≡ CellAt i j
   south_cell i j = choose (nat_le 1 (j + 1)) (grind (arith, nat_tests)) ∙ ap (λ (k : ℕ). CellAt i k) (let e : j + 1 - 1 ≡ j = omega arith in e)
     where
       choose : (b : Bool) → b ≡ true → (if b then CellAt i (j + 1 - 1) else HoleAt S i (1 - (j + 1))) ≡ CellAt i (j + 1 - 1)
       choose b e = ap (λ (a : Bool). if a then CellAt i (j + 1 - 1) else HoleAt S i (1 - (j + 1))) e
 
   -- a face between two cells of the piece
-  east_meets : (i j : ℕ) → i + 1 < area.nx → pos 0 -ℤ next_number area height slope faces (i + 1) j W ≡ next_number area height slope faces i j E
+  pub east_meets : (i j : ℕ) → i + 1 < area.nx → pos 0 -ℤ next_number area height slope faces (i + 1) j W ≡ next_number area height slope faces i j E
   east_meets i j l =
       ap (λ (there : Spot). pos 0 -ℤ by (CellAt (i + 1) j) there (pos 0 -ℤ eastward_at faces (i + 1) j)) (west_cell i j)
       ∙ opposite_by (CellAt i j) (CellAt (i + 1) j) (eastward_at faces (i + 1) j)
       ∙ sym (ap (λ (there : Spot). by (CellAt i j) there (eastward_at faces (i + 1) j)) (east_cell i j l))
 
-  north_meets : (i j : ℕ) → j + 1 < area.ny → pos 0 -ℤ next_number area height slope faces i (j + 1) S ≡ next_number area height slope faces i j N
+  pub north_meets : (i j : ℕ) → j + 1 < area.ny → pos 0 -ℤ next_number area height slope faces i (j + 1) S ≡ next_number area height slope faces i j N
   north_meets i j l =
       ap (λ (there : Spot). pos 0 -ℤ by (CellAt i (j + 1)) there (pos 0 -ℤ northward_at faces i (j + 1))) (south_cell i j)
       ∙ opposite_by (CellAt i j) (CellAt i (j + 1)) (northward_at faces i (j + 1))

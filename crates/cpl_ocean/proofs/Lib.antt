@@ -2,9 +2,10 @@ pub mod Around
 pub mod Sums
 pub mod Raised
 pub mod Driven
+pub mod Turned
+pub mod Carried
 pub mod Stored
 pub mod Each
-pub mod Zones
 pub mod Steps
 pub mod Ended
 pub mod Loaded

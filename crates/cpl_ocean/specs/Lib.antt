@@ -2,6 +2,7 @@ pub mod Layers
 pub mod Flows
 pub mod Columns
 pub mod Sweeps
+pub mod Rows
 pub mod Zones
 pub mod Numbers
 pub mod Mixed

@@ -3,7 +3,7 @@ use Rattle.std.specs.Prelude.{◌≡◌, ◌≢◌, ℕ, zero, suc, ◌+◌, ◌
 use Rattle.cpl_layout.specs.declared.piece.Piece.{Piece}
 use Rattle.cpl_mosaic.specs.declared.parts.Side.{Side}
 use Rattle.cpl_field.specs.Crossings.{SetsSide, outward}
-use Rattle.cpl_field.specs.Spots.{FieldNumbers, CellAt, HoleAt, IsSpot, IsSameShape, number_at}
+use Rattle.cpl_field.specs.Spots.{FieldNumbers, CellAt, HoleAt, IsSpot, IsSameShape, Sets, number_at}
 use Rattle.cpl_ice.specs.declared.parts.Salty.{Salty}
 use Rattle.cpl_ocean.specs.declared.basin.Basin.{Basin}
 use Rattle.cpl_ocean.specs.declared.fields.Fields.{Fields}
@@ -94,6 +94,10 @@ pub record LoadsHoles (from old new : FieldNumbers) : Type 0 where
   pub shape : IsSameShape old new
   pub cells : (i j : ℕ) → IsSpot old (CellAt i j) → number_at new (CellAt i j) ≡ number_at old (CellAt i j)
   pub holes : (side : Side) (k depth : ℕ) → IsSpot old (HoleAt side k depth) → number_at new (HoleAt side k depth) ≡ number_at from (HoleAt side k depth)
+
+-- one hole has another number
+abbrev pub SetsHole : (side : Side) → (k depth : ℕ) → ℤ → (old new : FieldNumbers) → Type 0
+SetsHole side k depth x old new = Sets old new (HoleAt side k depth) x
 
 -- a piece with nothing in it
 pub record IsEmptyOcean (piece : Piece) (area : FieldNumbers) (layers : ℕ) (ocean : OceanNumbers) : Type 0 where

@@ -23,6 +23,7 @@ pub struct Fields {
 
 impl Fields {
     /// A cell.
+    #[inline(always)]
     pub(crate) fn get(&self, i: u32, j: u32) -> Salty
         requires alike { AreAlike self.now }
         requires cell { IsSpot self.now.water (CellAt i j) }
@@ -36,6 +37,7 @@ impl Fields {
     }
 
     /// What lies so many steps out through a side of a cell: a cell or a hole.
+    #[inline(always)]
     pub(crate) fn at(&self, i: u32, j: u32, side: Side, depth: u32) -> Salty
         requires alike { AreAlike self.now }
         requires cell { IsSpot self.now.water (CellAt i j) }

@@ -17,7 +17,7 @@ use cpl_mosaic::{Side, opposite};
 use cpl_transport::{next_face, sum_of_sides, through, without};
 
 // Whether there is a column over this area.
-#[inline]
+#[inline(always)]
 fn is_wet(area: i64) -> bool
     ensures { result ≡ nat_lt 0 (amount area) }
 {
@@ -25,7 +25,7 @@ fn is_wet(area: i64) -> bool
 }
 
 // Whether a side of a cell has no wall.
-#[inline]
+#[inline(always)]
 fn is_open(area: &Field, i: u32, j: u32, side: Side) -> bool
     requires cell { IsSpot area.now (CellAt i j) }
     requires width { area.now.width ≡ 2 }
@@ -35,6 +35,7 @@ fn is_open(area: &Field, i: u32, j: u32, side: Side) -> bool
 }
 
 // The number of the face of a side after a step, outward.
+#[inline(always)]
 pub(crate) fn next_number(
     area: &Field,
     heights: &Field,
@@ -62,6 +63,7 @@ pub(crate) fn next_number(
 }
 
 // The cell behind a cell, opposite a side, or the cell itself where a wall lies between.
+#[inline(always)]
 fn behind(area: &Field, fields: &Fields, i: u32, j: u32, side: Side) -> Salty
     requires cell { IsSpot area.now (CellAt i j) }
     requires width { area.now.width ≡ 2 }
@@ -77,6 +79,7 @@ fn behind(area: &Field, fields: &Fields, i: u32, j: u32, side: Side) -> Salty
 }
 
 // The cell beyond the one across a side, or that one itself where a wall lies between.
+#[inline(always)]
 fn beyond(area: &Field, fields: &Fields, i: u32, j: u32, side: Side) -> Salty
     requires cell { IsSpot area.now (CellAt i j) }
     requires width { area.now.width ≡ 2 }
@@ -90,8 +93,16 @@ fn beyond(area: &Field, fields: &Fields, i: u32, j: u32, side: Side) -> Salty
     }
 }
 
-// What moves outward through a side of a cell.
-fn flow_out(basin: &Basin, slope: u32, fields: &Fields, i: u32, j: u32, side: Side) -> Salty
+/// What moves outward through a side of a cell.
+#[inline(always)]
+pub(crate) fn flow_out(
+    basin: &Basin,
+    slope: u32,
+    fields: &Fields,
+    i: u32,
+    j: u32,
+    side: Side,
+) -> Salty
     requires from { CanTransport basin.now slope fields.now }
     requires cell { IsSpot basin.now.area (CellAt i j) }
     ensures value { result ≡ flow_out basin.now.area (number_at basin.now.heights) slope fields.now i j side }

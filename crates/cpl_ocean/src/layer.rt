@@ -6,7 +6,7 @@ ghost use Rattle.cpl_field.specs.Spots.{Spot, CellAt, HoleAt, IsSpot, IsSameShap
 ghost use Rattle.cpl_transport.specs.Salts.{nothing};
 ghost use Rattle.cpl_ocean.specs.Layers.{AreAlike, IsEmptyLayer, IsLayerOf, SetsCell, salty_at};
 ghost use Rattle.cpl_ocean.specs.Numbers.{DrivesLayer};
-ghost use Rattle.cpl_ocean.specs.Pieces.{ChangesField, ChangesSide, LoadsCells, LoadsHoles, field_in};
+ghost use Rattle.cpl_ocean.specs.Pieces.{ChangesField, ChangesSide, LoadsCells, LoadsHoles, SetsHole, field_in};
 ghost use Rattle.cpl_ocean.specs.Sweeps.{CanSweep, IsBasin, SweepsLayer};
 ghost use Rattle.cpl_ocean.specs.Zones.{IsIn};
 
@@ -23,19 +23,24 @@ use cpl_mosaic::Side;
 use std::alloc::{AllocError, Global};
 use std::marker::Model;
 
-/// A layer's fields, and what the transport leaves in each of its cells: the rows one after another.
+/// A layer's fields, and what the transport leaves in each of its cells: the rows one after another. It has room for one row of what
+/// moves through faces.
 #[derive(Drop)]
 pub(crate) struct Layer {
     pub(crate) fields: Fields,
     pub(crate) left: Vec<Salty>,
+    souths: Vec<Salty>,
 }
 
 impl Model for Layer {
+    ghost use Rattle.std.specs.Prelude.{◌≡◌, length};
     ghost use Rattle.cpl_ocean.specs.Layers.{LayerNumbers};
 
     ghost Value = { LayerNumbers };
 
     ghost view = { λ a. record { fields = a.fields; left = a.left.items } };
+
+    ghost invariant = { λ a. length a.souths.items ≡ a.fields.water.nx };
 }
 
 impl Layer {
@@ -52,6 +57,7 @@ impl Layer {
                 faces: Faces::new(alloc, piece)?,
             },
             left: vec![in alloc; NOTHING; (piece.nx * piece.ny) as usize]?,
+            souths: vec![in alloc; NOTHING; piece.nx as usize]?,
         })
     }
 
@@ -131,7 +137,14 @@ impl Layer {
         requires { CanSweep basin.now slope self.old }
         ensures { SweepsLayer basin.now slope (IsIn zone basin.now.area) self.old self.new }
     {
-        sweep(basin, slope, &self.fields, zone, &mut self.left);
+        sweep(
+            basin,
+            slope,
+            &self.fields,
+            zone,
+            &mut self.souths,
+            &mut self.left,
+        );
     }
 
     /// Sets the numbers of the faces to what they are after a step.
@@ -160,7 +173,21 @@ impl Layer {
         }
     }
 
-    /// Sets its holes.
+    /// Sets one of its holes.
+    pub(crate) fn set_hole(&mut self, n: u32, side: Side, at: u32, depth: u32, x: i64)
+        requires quantity { n < 3 }
+        requires alike { AreAlike self.old.fields }
+        requires hole { IsSpot self.old.fields.water (HoleAt side at depth) }
+        ensures { ChangesField n (SetsHole side at depth x) self.old self.new }
+    {
+        match n {
+            0 => self.fields.water.set_halo(side, at, depth, x),
+            1 => self.fields.heat.set_halo(side, at, depth, x),
+            _ => self.fields.salt.set_halo(side, at, depth, x),
+        }
+    }
+
+    /// Sets all of its holes.
     pub(crate) fn load_halo(&mut self, n: u32, from: &Field, nx: u32, ny: u32)
         requires quantity { n < 3 }
         requires columns { from.now.nx ≡ nx }

@@ -6,6 +6,7 @@ mod basin;
 mod fields;
 mod flows;
 mod heights;
+mod inner;
 mod layer;
 mod loads;
 mod mixing;

@@ -2,7 +2,7 @@
 ghost use Rattle.std.specs.Prelude.{◌≡◌, ℕ, ◌+◌, ◌*◌, ◌<◌, ◌≤◌, length, IfOk};
 ghost use Rattle.cpl_layout.specs.Owners.{IsPiece};
 ghost use Rattle.cpl_field.specs.Crossings.{IsFaceNumber};
-ghost use Rattle.cpl_field.specs.Spots.{Spot, CellAt, IsSpot, IsSameShape};
+ghost use Rattle.cpl_field.specs.Spots.{Spot, CellAt, HoleAt, IsSpot, IsSameShape};
 ghost use Rattle.cpl_fixed.specs.declared.limits.TheConstants.{MOST_LAYERS};
 ghost use Rattle.cpl_transport.specs.Cuts.{cut_of, uncut};
 ghost use Rattle.cpl_transport.specs.Salts.{IsSalty, joined};
@@ -12,7 +12,7 @@ ghost use Rattle.cpl_ocean.specs.Layers.{IsEmptyLayer, layer_at, salty_at};
 ghost use Rattle.cpl_ocean.specs.Mixed.{IsAllLeft};
 ghost use Rattle.cpl_ocean.specs.Sweeps.{IsInner, IsRim};
 ghost use Rattle.cpl_ocean.specs.Zones.{IsIn, IsRead};
-ghost use Rattle.cpl_ocean.specs.Pieces.{ChangesCell, ChangesField, ChangesLayer, ChangesSide, Finishes, HasAmounts, IsEmptyOcean, LoadsCells, LoadsHoles, Transports, field_in, fields_at};
+ghost use Rattle.cpl_ocean.specs.Pieces.{ChangesCell, ChangesField, ChangesLayer, ChangesSide, Finishes, HasAmounts, IsEmptyOcean, LoadsCells, LoadsHoles, SetsHole, Transports, field_in, fields_at};
 
 use crate::basin::Basin;
 use crate::heights::raise;
@@ -135,6 +135,16 @@ impl OceanPiece {
     {
         let (nx, ny) = (self.basin.nx, self.basin.ny);
         self.layers[layer as usize].load_halo(n, field, nx, ny);
+    }
+
+    /// Sets one hole of a layer's water (0), heat (1) or salt (2), where it is taken. It takes no memory.
+    pub fn set_hole(&mut self, layer: u32, n: u32, side: Side, at: u32, depth: u32, x: i64)
+        requires layer { layer < length self.old.layers }
+        requires quantity { n < 3 }
+        requires hole { IsSpot self.old.area (HoleAt side at depth) }
+        ensures { ChangesLayer layer (ChangesField n (SetsHole side at depth x)) self.old self.new }
+    {
+        self.layers[layer as usize].set_hole(n, side, at, depth, x);
     }
 
     /// Sets the number of the face of a side of a cell of a layer, as the cell sees it outward.

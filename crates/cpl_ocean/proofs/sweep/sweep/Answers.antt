@@ -1,16 +1,17 @@
-use Rattle.std.proofs.Common.{arith}
-use Rattle.cpl_ocean.specs.Sweeps.{left_in}
-use Rattle.cpl_ocean.proofs.Zones.{rows_all, rows_more}
+use Rattle.std.proofs.Common.{sym, subst}
+use Rattle.cpl_ocean.specs.declared.zone.Zone.{Zone}
+use Rattle.cpl_ocean.specs.Sweeps.{Computes, left_in}
+use Rattle.cpl_ocean.specs.Zones.{IsIn}
 use Rattle.cpl_ocean.proofs.sweep.sweep.Goals as goal
 
-pub loop-j-preserved : goal.loop-j-preserved
-loop-j-preserved c =
+pub returns-in-Inner : goal.returns-in-Inner
+returns-in-Inner c =
     let basin = c.args.basin.now in
-    rows_more basin.area (left_in basin c.args.slope c.args.fields.now) c.args.zone c.loop-j.j c.args.left.now c.loop-j.left c.sweep_row.new.left c.loop-j.invariant c.sweep_row.ensures
+    let next = left_in basin c.args.slope c.args.fields.now in
+    subst (λ (zone : Zone). Computes basin.area next (IsIn zone basin.area) c.args.left.now c.sweep_inner.new.left) (sym c.in-Inner.is) c.sweep_inner.ensures
 
-pub returns : goal.returns
-returns c =
+pub returns-in-Rim : goal.returns-in-Rim
+returns-in-Rim c =
     let basin = c.args.basin.now in
-    let rows = c.requires.from.columns.rows in
-    let all = c.loop-j-test.false in
-    rows_all basin.area (left_in basin c.args.slope c.args.fields.now) c.args.zone c.loop-j.j c.args.left.now c.loop-j.left (omega arith) c.loop-j.invariant
+    let next = left_in basin c.args.slope c.args.fields.now in
+    subst (λ (zone : Zone). Computes basin.area next (IsIn zone basin.area) c.args.left.now c.sweep_rim.new.left) (sym c.in-Rim.is) c.sweep_rim.ensures
