@@ -1,0 +1,4 @@
+pub mod Windows
+pub mod Places
+pub mod Cuts
+pub mod Lists
